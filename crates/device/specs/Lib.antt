@@ -1,0 +1,3 @@
+pub mod Medium
+pub mod Calls
+pub mod History

@@ -1,0 +1,22 @@
+mod bank;
+mod fuse;
+mod image;
+mod memory;
+mod write_behind;
+mod write_through;
+
+pub use image::Image;
+pub use image::ImageFault;
+pub use image::ImageFaultDebug;
+pub use image::ImageFaultDisplay;
+pub use image::ImageFaultEq;
+pub use image::ImageFaultPartialEq;
+pub use image::ImageReader;
+pub use write_behind::WriteBehind;
+pub use write_behind::WriteBehindDevice;
+pub use write_behind::WriteBehindPowerCycle;
+pub use write_behind::WriteBehindReader;
+pub use write_through::WriteThrough;
+pub use write_through::WriteThroughDevice;
+pub use write_through::WriteThroughPowerCycle;
+pub use write_through::WriteThroughReader;
