@@ -49,20 +49,14 @@ abbrev pub lastWritten : Medium → History → ℕ → List ℕ
 lastWritten m [] p = m .bytes p
 lastWritten m (s ∷ h) p = writtenBy (s .event) p (lastWritten m h p)
 
--- A call, whole: `meaning` is what it answers and does, and `recorded` says that whatever may have been the
--- history before it (P), that history with this call may be the one after it (Q).
-pub record Reading (P : History → Type 0) (m : Medium) (p : ℕ) (b : List ℕ) (r : Result Unit DeviceFault) (Q : History → Type 0) (n : Medium) : Type 0 where
-  pub meaning : Reads m p b r n
-  pub recorded : (h : History) → P h → Q (step m (did-read p b r) n ∷ h)
+-- what the rules allow an event to do
+abbrev pub Allowed : Medium → Event → Medium → Type 0
+Allowed m (did-read p b r) n = Reads m p b r n
+Allowed m (did-write p b r) n = Writes m p b r n
+Allowed m (did-sync r) n = Syncs m r n
+Allowed m power-returned n = Returns m n
 
-pub record Writing (P : History → Type 0) (m : Medium) (p : ℕ) (b : List ℕ) (r : Result Unit DeviceFault) (Q : History → Type 0) (n : Medium) : Type 0 where
-  pub meaning : Writes m p b r n
-  pub recorded : (h : History) → P h → Q (step m (did-write p b r) n ∷ h)
-
-pub record Syncing (P : History → Type 0) (m : Medium) (r : Result Unit DeviceFault) (Q : History → Type 0) (n : Medium) : Type 0 where
-  pub meaning : Syncs m r n
-  pub recorded : (h : History) → P h → Q (step m (did-sync r) n ∷ h)
-
-pub record Returning (P : History → Type 0) (m : Medium) (Q : History → Type 0) (n : Medium) : Type 0 where
-  pub meaning : Returns m n
-  pub recorded : (h : History) → P h → Q (step m power-returned n ∷ h)
+-- The event e on a device. P are the histories that may have been the device's before it, and Q those that may
+-- be its own after it: whichever it was, the event is one that the rules allow, and is now its newest step.
+pub record Happens (P : History → Type 0) (m : Medium) (e : Event) (Q : History → Type 0) (n : Medium) : Type 0 where
+  pub follows : (h : History) → P h → Allowed m e n × Q (step m e n ∷ h)

@@ -6,7 +6,7 @@
 // each call is one relation between these before and after it (specs/Calls.antt).
 ghost use mathlib.Core.Path.{_≡_};
 ghost use Rattle.device.specs.Medium.{Medium, Whole};
-ghost use Rattle.device.specs.History.{History, Reading, Writing, Syncing, Returning};
+ghost use Rattle.device.specs.History.{History, Happens, did-read, did-write, did-sync, power-returned};
 
 mod fault;
 
@@ -24,8 +24,8 @@ pub type Page = [u8; PAGE_SIZE];
 pub trait Reader {
     ghost medium: { Self → Medium };
 
-    // The histories that may be this device's own, newest call first. A device that keeps no account of its
-    // calls allows every history.
+    // The histories that may have led to this device, newest step first. One that keeps no account of its calls
+    // allows every history. A value that no history leads to is no device, and promises nothing.
     ghost past: { Self → History → Type 0 };
 
     law whole: { (d : Self) → Whole (medium d) };
@@ -35,19 +35,19 @@ pub trait Reader {
 
     // Copies the page into the buffer. A refused read leaves zeros there.
     fn read(&mut self, page: u32, buffer: &mut Page) -> Result<(), DeviceFault>
-        ensures { λ r. ⌜ Reading (past (now (self .entry))) (medium (now (self .entry))) page (now (buffer .exit)) r (past (now (self .exit))) (medium (now (self .exit))) ⌝ };
+        ensures { λ r. ⌜ Happens (past (now (self .entry))) (medium (now (self .entry))) (did-read page (now (buffer .exit)) r) (past (now (self .exit))) (medium (now (self .exit))) ⌝ };
 }
 
 pub trait Device: Reader {
     fn write(&mut self, page: u32, bytes: &Page) -> Result<(), DeviceFault>
-        ensures { λ r. ⌜ Writing (Self·Reader .past (now (self .entry))) (Self·Reader .medium (now (self .entry))) page (now (bytes .entry)) r (Self·Reader .past (now (self .exit))) (Self·Reader .medium (now (self .exit))) ⌝ };
+        ensures { λ r. ⌜ Happens (Self·Reader .past (now (self .entry))) (Self·Reader .medium (now (self .entry))) (did-write page (now (bytes .entry)) r) (Self·Reader .past (now (self .exit))) (Self·Reader .medium (now (self .exit))) ⌝ };
 
     fn sync(&mut self) -> Result<(), DeviceFault>
-        ensures { λ r. ⌜ Syncing (Self·Reader .past (now (self .entry))) (Self·Reader .medium (now (self .entry))) r (Self·Reader .past (now (self .exit))) (Self·Reader .medium (now (self .exit))) ⌝ };
+        ensures { λ r. ⌜ Happens (Self·Reader .past (now (self .entry))) (Self·Reader .medium (now (self .entry))) (did-sync r) (Self·Reader .past (now (self .exit))) (Self·Reader .medium (now (self .exit))) ⌝ };
 }
 
 pub trait PowerCycle: Device {
     // Power returns. It may have failed before or not.
     fn power_return(&mut self)
-        ensures { λ _. ⌜ Returning (Self·Reader .past (now (self .entry))) (Self·Reader .medium (now (self .entry))) (Self·Reader .past (now (self .exit))) (Self·Reader .medium (now (self .exit))) ⌝ };
+        ensures { λ _. ⌜ Happens (Self·Reader .past (now (self .entry))) (Self·Reader .medium (now (self .entry))) power-returned (Self·Reader .past (now (self .exit))) (Self·Reader .medium (now (self .exit))) ⌝ };
 }

@@ -1,8 +1,9 @@
 ghost use mathlib.Core.Path.{_≡_};
+ghost use mathlib.Core.List.{[]};
 ghost use lib.ListN.{replicate};
 ghost use Rattle.std.specs.Vec.{made};
 ghost use Rattle.device.specs.Medium.{zeros};
-ghost use Rattle.device.specs.History.{Reading, Writing, Syncing, Returning};
+ghost use Rattle.device.specs.History.{Happens, did-read, did-write, did-sync, power-returned};
 ghost use Rattle.disks.specs.Fuses.{renewed};
 ghost use Rattle.disks.specs.Banks.{pagesOf, Admits, BankReads, BankWrites};
 ghost use Rattle.disks.specs.Through.{throughMedium, NeverVolatile};
@@ -29,6 +30,7 @@ impl WriteThrough {
     pub fn new(heap: Global, pages: u32, limit: u64) -> Result<Self, AllocError>
         ensures pages { λ r. ⌜ made r (λ d. pagesOf (d .bank) ≡ replicate pages zeros) ⌝ }
         ensures fuse { λ r. ⌜ made r (λ d. d .bank .fuse ≡ record { limit = limit; calls = 0 }) ⌝ }
+        ensures past { λ r. ⌜ made r (λ _. NeverVolatile []) ⌝ }
     {
         Ok(WriteThrough {
             bank: Bank {
@@ -56,7 +58,7 @@ pub impl Reader for WriteThrough as WriteThroughReader {
     }
 
     fn read(&mut self, page: u32, buffer: &mut Page) -> Result<(), DeviceFault>
-        ensures meaning { λ r. ⌜ Reading NeverVolatile (throughMedium (now (self .entry) .bank)) page (now (buffer .exit)) r NeverVolatile (throughMedium (now (self .exit) .bank)) ⌝ }
+        ensures meaning { λ r. ⌜ Happens NeverVolatile (throughMedium (now (self .entry) .bank)) (did-read page (now (buffer .exit)) r) NeverVolatile (throughMedium (now (self .exit) .bank)) ⌝ }
         ensures settled { λ r. ⌜ BankReads (now (self .entry) .bank) page (now (buffer .exit)) r (now (self .exit) .bank) ⌝ }
     {
         self.bank.read(page, buffer)
@@ -65,14 +67,14 @@ pub impl Reader for WriteThrough as WriteThroughReader {
 
 pub impl Device for WriteThrough as WriteThroughDevice {
     fn write(&mut self, page: u32, bytes: &Page) -> Result<(), DeviceFault>
-        ensures meaning { λ r. ⌜ Writing NeverVolatile (throughMedium (now (self .entry) .bank)) page (now (bytes .entry)) r NeverVolatile (throughMedium (now (self .exit) .bank)) ⌝ }
+        ensures meaning { λ r. ⌜ Happens NeverVolatile (throughMedium (now (self .entry) .bank)) (did-write page (now (bytes .entry)) r) NeverVolatile (throughMedium (now (self .exit) .bank)) ⌝ }
         ensures settled { λ r. ⌜ BankWrites (now (self .entry) .bank) page (now (bytes .entry)) r (now (self .exit) .bank) ⌝ }
     {
         self.bank.write(page, bytes)
     }
 
     fn sync(&mut self) -> Result<(), DeviceFault>
-        ensures meaning { λ r. ⌜ Syncing NeverVolatile (throughMedium (now (self .entry) .bank)) r NeverVolatile (throughMedium (now (self .exit) .bank)) ⌝ }
+        ensures meaning { λ r. ⌜ Happens NeverVolatile (throughMedium (now (self .entry) .bank)) (did-sync r) NeverVolatile (throughMedium (now (self .exit) .bank)) ⌝ }
         ensures settled { λ r. ⌜ Admits (now (self .entry) .bank) r (now (self .exit) .bank) ⌝ }
     {
         self.bank.admit()
@@ -81,7 +83,7 @@ pub impl Device for WriteThrough as WriteThroughDevice {
 
 pub impl PowerCycle for WriteThrough as WriteThroughPowerCycle {
     fn power_return(&mut self)
-        ensures meaning { λ _. ⌜ Returning NeverVolatile (throughMedium (now (self .entry) .bank)) NeverVolatile (throughMedium (now (self .exit) .bank)) ⌝ }
+        ensures meaning { λ _. ⌜ Happens NeverVolatile (throughMedium (now (self .entry) .bank)) power-returned NeverVolatile (throughMedium (now (self .exit) .bank)) ⌝ }
         ensures memory { λ _. ⌜ now (self .exit) .bank .memory ≡ now (self .entry) .bank .memory ⌝ }
         ensures fuse { λ _. ⌜ now (self .exit) .bank .fuse ≡ renewed (now (self .entry) .bank .fuse) ⌝ }
     {

@@ -1,5 +1,5 @@
 ghost use Rattle.std.specs.Of.Vec.{vec-items};
-ghost use Rattle.device.specs.History.{Reading};
+ghost use Rattle.device.specs.History.{Happens, did-read};
 ghost use Rattle.disks.specs.Images.{imageMedium};
 ghost use Rattle.disks.specs.ImageCalls.{bytesOf, Makes, ImageReads};
 use crate::image::Image;
@@ -33,7 +33,7 @@ pub impl Reader for Image as ImageReader {
     }
 
     fn read(&mut self, page: u32, buffer: &mut Page) -> Result<(), DeviceFault>
-        ensures meaning { λ r. ⌜ Reading (λ _. Unit {0}) (imageMedium (bytesOf (now (self .entry)))) page (now (buffer .exit)) r (λ _. Unit {0}) (imageMedium (bytesOf (now (self .exit)))) ⌝ }
+        ensures meaning { λ r. ⌜ Happens (λ _. Unit {0}) (imageMedium (bytesOf (now (self .entry)))) (did-read page (now (buffer .exit)) r) (λ _. Unit {0}) (imageMedium (bytesOf (now (self .exit)))) ⌝ }
         ensures settled { λ r. ⌜ ImageReads (now (self .entry)) page (now (buffer .exit)) r (now (self .exit)) ⌝ }
     {
         *buffer = [0; PAGE_SIZE];

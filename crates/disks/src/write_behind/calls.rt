@@ -4,8 +4,9 @@ ghost use lib.ListN.{length, getD, replicate};
 ghost use Rattle.std.specs.Of.Vec.{vec-items};
 ghost use Rattle.std.specs.Vec.{made};
 ghost use mathlib.Core.Bool.{false};
+ghost use mathlib.Core.List.{[]};
 ghost use Rattle.device.specs.Medium.{zeros};
-ghost use Rattle.device.specs.History.{Reading, Writing, Syncing, Returning};
+ghost use Rattle.device.specs.History.{Happens, did-read, did-write, did-sync, power-returned};
 ghost use Rattle.disks.specs.Banks.{pagesOf};
 ghost use Rattle.disks.specs.BehindCalls.{durableOf, changedOf, behindMedium, behindPast, BehindReads, BehindWrites, BehindSyncs, BehindReturns};
 use crate::bank::Bank;
@@ -37,6 +38,7 @@ impl WriteBehind {
         ensures durable { λ r. ⌜ made r (λ d. durableOf d ≡ replicate pages zeros) ⌝ }
         ensures changed { λ r. ⌜ made r (λ d. changedOf d ≡ replicate pages false) ⌝ }
         ensures fuse { λ r. ⌜ made r (λ d. d .bank .fuse ≡ record { limit = limit; calls = 0 }) ⌝ }
+        ensures past { λ r. ⌜ made r (λ d. behindPast d []) ⌝ }
     {
         let bank = Bank {
             memory: Memory::new(heap, pages)?,
@@ -69,7 +71,7 @@ pub impl Reader for WriteBehind as WriteBehindReader {
     }
 
     fn read(&mut self, page: u32, buffer: &mut Page) -> Result<(), DeviceFault>
-        ensures meaning { λ r. ⌜ Reading (behindPast (now (self .entry))) (behindMedium (now (self .entry))) page (now (buffer .exit)) r (behindPast (now (self .exit))) (behindMedium (now (self .exit))) ⌝ }
+        ensures meaning { λ r. ⌜ Happens (behindPast (now (self .entry))) (behindMedium (now (self .entry))) (did-read page (now (buffer .exit)) r) (behindPast (now (self .exit))) (behindMedium (now (self .exit))) ⌝ }
         ensures settled { λ r. ⌜ BehindReads (now (self .entry)) page (now (buffer .exit)) r (now (self .exit)) ⌝ }
     {
         self.bank.read(page, buffer)
@@ -78,7 +80,7 @@ pub impl Reader for WriteBehind as WriteBehindReader {
 
 pub impl Device for WriteBehind as WriteBehindDevice {
     fn write(&mut self, page: u32, bytes: &Page) -> Result<(), DeviceFault>
-        ensures meaning { λ r. ⌜ Writing (behindPast (now (self .entry))) (behindMedium (now (self .entry))) page (now (bytes .entry)) r (behindPast (now (self .exit))) (behindMedium (now (self .exit))) ⌝ }
+        ensures meaning { λ r. ⌜ Happens (behindPast (now (self .entry))) (behindMedium (now (self .entry))) (did-write page (now (bytes .entry)) r) (behindPast (now (self .exit))) (behindMedium (now (self .exit))) ⌝ }
         ensures settled { λ r. ⌜ BehindWrites (now (self .entry)) page (now (bytes .entry)) r (now (self .exit)) ⌝ }
     {
         self.bank.write(page, bytes)?;
@@ -87,7 +89,7 @@ pub impl Device for WriteBehind as WriteBehindDevice {
     }
 
     fn sync(&mut self) -> Result<(), DeviceFault>
-        ensures meaning { λ r. ⌜ Syncing (behindPast (now (self .entry))) (behindMedium (now (self .entry))) r (behindPast (now (self .exit))) (behindMedium (now (self .exit))) ⌝ }
+        ensures meaning { λ r. ⌜ Happens (behindPast (now (self .entry))) (behindMedium (now (self .entry))) (did-sync r) (behindPast (now (self .exit))) (behindMedium (now (self .exit))) ⌝ }
         ensures settled { λ r. ⌜ BehindSyncs (now (self .entry)) r (now (self .exit)) ⌝ }
     {
         self.bank.admit()?;
@@ -99,7 +101,7 @@ pub impl Device for WriteBehind as WriteBehindDevice {
 
 pub impl PowerCycle for WriteBehind as WriteBehindPowerCycle {
     fn power_return(&mut self)
-        ensures meaning { λ _. ⌜ Returning (behindPast (now (self .entry))) (behindMedium (now (self .entry))) (behindPast (now (self .exit))) (behindMedium (now (self .exit))) ⌝ }
+        ensures meaning { λ _. ⌜ Happens (behindPast (now (self .entry))) (behindMedium (now (self .entry))) power-returned (behindPast (now (self .exit))) (behindMedium (now (self .exit))) ⌝ }
         ensures settled { λ _. ⌜ BehindReturns (now (self .entry)) (now (self .exit)) ⌝ }
     {
         self.bank.memory.copy_from(&self.durable);
