@@ -1,3 +1,4 @@
+pub mod Faults
 pub mod Medium
 pub mod Calls
 pub mod History

@@ -1,3 +1,6 @@
+ghost use mathlib.Core.Path.{_≡_};
+ghost use Rattle.std.specs.declared.option.Option.the-variants.{Some};
+ghost use Rattle.device.specs.Faults.{words};
 use std::fmt;
 
 // Why a device refuses a call.
@@ -9,11 +12,21 @@ pub enum DeviceFault {
     Off,
 }
 
-pub impl fmt::Display for DeviceFault as DeviceFaultDisplay {
-    fn fmt<W: fmt::Write>(&self, f: &mut fmt::Formatter<W>) -> fmt::Result {
+impl DeviceFault {
+    pub fn as_str(self) -> &'static str
+        ensures { λ r. ⌜ now r ≡ words self ⌝ }
+    {
         match self {
-            DeviceFault::Outside => f.write_str("page outside the device"),
-            DeviceFault::Off => f.write_str("device off"),
+            DeviceFault::Outside => "page outside the device",
+            DeviceFault::Off => "device off",
         }
+    }
+}
+
+pub impl fmt::Display for DeviceFault as DeviceFaultDisplay {
+    ghost shown = { λ f. Some (words f) };
+
+    fn fmt<W: fmt::Write>(&self, f: &mut fmt::Formatter<W>) -> fmt::Result {
+        f.write_str(self.as_str())
     }
 }

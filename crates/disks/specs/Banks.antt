@@ -14,7 +14,7 @@ use Rattle.device.specs.Medium.{zeros}
 use Rattle.device.specs.declared.fault.DeviceFault.{DeviceFault}
 use Rattle.device.specs.declared.fault.DeviceFault.the-variants.{Outside, Off}
 use Rattle.disks.specs.Pages.{pageAt}
-use Rattle.disks.specs.Fuses.{lit, counted}
+use Rattle.disks.specs.Fuses.{powered, counted}
 use Rattle.disks.specs.declared.fuse.Fuse.{Fuse}
 use Rattle.disks.specs.declared.bank.Bank.{Bank}
 
@@ -26,7 +26,7 @@ sizeOf b = length (pagesOf b)
 
 -- the answer to a call that names no page
 abbrev pub answer : Bank → Result Unit DeviceFault
-answer b = cond (lit (counted (b .fuse))) (Ok tt) (Err Off)
+answer b = cond (powered (counted (b .fuse))) (Ok tt) (Err Off)
 
 -- the answer to a call that names page p, and the fuse after it: one outside the device is refused before all
 -- else, and not counted

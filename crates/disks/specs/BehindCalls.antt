@@ -12,7 +12,7 @@ use Rattle.device.specs.Medium.{Medium}
 use Rattle.device.specs.History.{History}
 use Rattle.device.specs.declared.fault.DeviceFault.{DeviceFault}
 use Rattle.disks.specs.Pages.{pageAt}
-use Rattle.disks.specs.Fuses.{lit, renewed}
+use Rattle.disks.specs.Fuses.{powered, renewed}
 use Rattle.disks.specs.Banks.{pagesOf, sizeOf, Admits, BankReads, BankWrites}
 use Rattle.disks.specs.Behind.{Remembers}
 use Rattle.disks.specs.declared.write_behind.WriteBehind.{WriteBehind}
@@ -25,7 +25,7 @@ changedOf d = vec-items (d .changed)
 
 -- page p is volatile from a write to it until the next sync
 abbrev pub behindMedium : WriteBehind → Medium
-behindMedium d = record { size = sizeOf (d .bank); bytes = pageAt (pagesOf (d .bank)); volatile = λ p. getD (changedOf d) p false; on = lit (d .bank .fuse) }
+behindMedium d = record { size = sizeOf (d .bank); bytes = pageAt (pagesOf (d .bank)); volatile = λ p. getD (changedOf d) p false; on = powered (d .bank .fuse) }
 
 abbrev pub behindPast : WriteBehind → History → Type 0
 behindPast d h = Remembers (durableOf d) (behindMedium d) h
@@ -44,10 +44,10 @@ pub record BehindWrites (d : WriteBehind) (p : ℕ) (bytes : List ℕ) (r : Resu
 pub record BehindSyncs (d : WriteBehind) (r : Result Unit DeviceFault) (e : WriteBehind) : Type 0 where
   pub admits : Admits (d .bank) r (e .bank)
   pub makes-durable : durableOf e ≡ cond (isOk r) (pagesOf (d .bank)) (durableOf d)
-  pub settles : changedOf e ≡ cond (isOk r) (replicate (sizeOf (d .bank)) false) (changedOf d)
+  pub clears : changedOf e ≡ cond (isOk r) (replicate (sizeOf (d .bank)) false) (changedOf d)
 
 pub record BehindReturns (d e : WriteBehind) : Type 0 where
   pub shows : pagesOf (e .bank) ≡ durableOf d
   pub same-durable : durableOf e ≡ durableOf d
-  pub settles : changedOf e ≡ replicate (sizeOf (d .bank)) false
+  pub clears : changedOf e ≡ replicate (sizeOf (d .bank)) false
   pub renews : e .bank .fuse ≡ renewed (d .bank .fuse)

@@ -5,12 +5,12 @@ use lib.Dec.{eqb, ltb}
 use Rattle.disks.specs.declared.fuse.Fuse.{Fuse}
 
 -- it is on: fewer calls than the limit were made, or there is no limit
-abbrev pub lit : Fuse → Bool
-lit f = eqb (f .limit) 0 || ltb (f .calls) (f .limit)
+abbrev pub powered : Fuse → Bool
+powered f = eqb (f .limit) 0 || ltb (f .calls) (f .limit)
 
 -- after one more call; a device that is off counts no more
 abbrev pub counted : Fuse → Fuse
-counted f = record { limit = f .limit; calls = cond (lit f) (min (f .calls + 1) (2 ^ 64 - 1)) (f .calls) }
+counted f = record { limit = f .limit; calls = cond (powered f) (min (f .calls + 1) (2 ^ 64 - 1)) (f .calls) }
 
 -- after a power return
 abbrev pub renewed : Fuse → Fuse

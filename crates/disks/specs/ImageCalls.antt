@@ -15,8 +15,8 @@ use Rattle.device.specs.declared.fault.DeviceFault.{DeviceFault}
 use Rattle.device.specs.declared.fault.DeviceFault.the-variants.{Outside}
 use Rattle.disks.specs.Images.{imageMedium, WholePages, FewPages}
 use Rattle.disks.specs.declared.image.Image.{Image}
-use Rattle.disks.specs.declared.image.ImageFault.{ImageFault}
-use Rattle.disks.specs.declared.image.ImageFault.the-variants.{PartialPage, TooManyPages}
+use Rattle.disks.specs.declared.image.fault.ImageFault.{ImageFault}
+use Rattle.disks.specs.declared.image.fault.ImageFault.the-variants.{PartialPage, TooManyPages}
 
 abbrev pub bytesOf : Image → List ℕ
 bytesOf i = vec-items (i .bytes)

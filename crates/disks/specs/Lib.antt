@@ -5,4 +5,5 @@ pub mod Through
 pub mod Behind
 pub mod BehindCalls
 pub mod Images
+pub mod ImageFaults
 pub mod ImageCalls

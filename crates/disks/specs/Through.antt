@@ -5,12 +5,12 @@ use mathlib.Core.List.{List, [], _∷_}
 use Rattle.device.specs.Medium.{Medium, Durable}
 use Rattle.device.specs.History.{Step, History}
 use Rattle.disks.specs.Pages.{pageAt}
-use Rattle.disks.specs.Fuses.{lit}
+use Rattle.disks.specs.Fuses.{powered}
 use Rattle.disks.specs.Banks.{pagesOf, sizeOf}
 use Rattle.disks.specs.declared.bank.Bank.{Bank}
 
 abbrev pub throughMedium : Bank → Medium
-throughMedium b = record { size = sizeOf b; bytes = pageAt (pagesOf b); volatile = λ _. false; on = lit (b .fuse) }
+throughMedium b = record { size = sizeOf b; bytes = pageAt (pagesOf b); volatile = λ _. false; on = powered (b .fuse) }
 
 -- no call of the history found a volatile page
 abbrev pub NeverVolatile : History → Type 0

@@ -1,5 +1,5 @@
 ghost use mathlib.Core.Path.{_≡_};
-ghost use Rattle.disks.specs.Fuses.{lit, counted, renewed};
+ghost use Rattle.disks.specs.Fuses.{powered, counted, renewed};
 
 // When power fails: the `limit`-th call is the first that is refused, none if `limit` is 0.
 #[derive(Clone, Copy)]
@@ -18,7 +18,7 @@ impl Fuse {
     }
 
     pub fn is_on(&self) -> bool
-        ensures { λ r. ⌜ r ≡ lit (now (self .entry)) ⌝ }
+        ensures { λ r. ⌜ r ≡ powered (now (self .entry)) ⌝ }
     {
         self.limit == 0 || self.calls < self.limit
     }
@@ -32,7 +32,7 @@ impl Fuse {
     // Counts a call, and says whether power lasts for it.
     pub fn call(&mut self) -> bool
         ensures after { λ r. ⌜ now (self .exit) ≡ counted (now (self .entry)) ⌝ }
-        ensures answer { λ r. ⌜ r ≡ lit (counted (now (self .entry))) ⌝ }
+        ensures answer { λ r. ⌜ r ≡ powered (counted (now (self .entry))) ⌝ }
     {
         if self.is_on() {
             self.calls = self.calls.saturating_add(1);

@@ -1,28 +1,15 @@
 ghost use Rattle.std.specs.Of.Vec.{vec-items};
 ghost use Rattle.disks.specs.Images.{WholePages, FewPages};
-use std::fmt;
 
 mod calls;
+mod fault;
 
 pub use calls::ImageReader;
-
-// Why bytes are no image.
-#[derive(Clone, Copy, PartialEq, Eq, Debug)]
-pub enum ImageFault {
-    // the last page is not whole
-    PartialPage,
-    // there are 2^32 pages or more
-    TooManyPages,
-}
-
-pub impl fmt::Display for ImageFault as ImageFaultDisplay {
-    fn fmt<W: fmt::Write>(&self, f: &mut fmt::Formatter<W>) -> fmt::Result {
-        match self {
-            ImageFault::PartialPage => f.write_str("not a whole number of 512-byte pages"),
-            ImageFault::TooManyPages => f.write_str("too many pages"),
-        }
-    }
-}
+pub use fault::ImageFault;
+pub use fault::ImageFaultDebug;
+pub use fault::ImageFaultDisplay;
+pub use fault::ImageFaultEq;
+pub use fault::ImageFaultPartialEq;
 
 // The bytes of a device, for reading only. It is never off.
 #[derive(Drop)]

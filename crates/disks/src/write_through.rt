@@ -59,7 +59,7 @@ pub impl Reader for WriteThrough as WriteThroughReader {
 
     fn read(&mut self, page: u32, buffer: &mut Page) -> Result<(), DeviceFault>
         ensures meaning { λ r. ⌜ Happens NeverVolatile (throughMedium (now (self .entry) .bank)) (did-read page (now (buffer .exit)) r) NeverVolatile (throughMedium (now (self .exit) .bank)) ⌝ }
-        ensures settled { λ r. ⌜ BankReads (now (self .entry) .bank) page (now (buffer .exit)) r (now (self .exit) .bank) ⌝ }
+        ensures exact { λ r. ⌜ BankReads (now (self .entry) .bank) page (now (buffer .exit)) r (now (self .exit) .bank) ⌝ }
     {
         self.bank.read(page, buffer)
     }
@@ -68,14 +68,14 @@ pub impl Reader for WriteThrough as WriteThroughReader {
 pub impl Device for WriteThrough as WriteThroughDevice {
     fn write(&mut self, page: u32, bytes: &Page) -> Result<(), DeviceFault>
         ensures meaning { λ r. ⌜ Happens NeverVolatile (throughMedium (now (self .entry) .bank)) (did-write page (now (bytes .entry)) r) NeverVolatile (throughMedium (now (self .exit) .bank)) ⌝ }
-        ensures settled { λ r. ⌜ BankWrites (now (self .entry) .bank) page (now (bytes .entry)) r (now (self .exit) .bank) ⌝ }
+        ensures exact { λ r. ⌜ BankWrites (now (self .entry) .bank) page (now (bytes .entry)) r (now (self .exit) .bank) ⌝ }
     {
         self.bank.write(page, bytes)
     }
 
     fn sync(&mut self) -> Result<(), DeviceFault>
         ensures meaning { λ r. ⌜ Happens NeverVolatile (throughMedium (now (self .entry) .bank)) (did-sync r) NeverVolatile (throughMedium (now (self .exit) .bank)) ⌝ }
-        ensures settled { λ r. ⌜ Admits (now (self .entry) .bank) r (now (self .exit) .bank) ⌝ }
+        ensures exact { λ r. ⌜ Admits (now (self .entry) .bank) r (now (self .exit) .bank) ⌝ }
     {
         self.bank.admit()
     }

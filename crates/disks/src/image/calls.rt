@@ -34,7 +34,7 @@ pub impl Reader for Image as ImageReader {
 
     fn read(&mut self, page: u32, buffer: &mut Page) -> Result<(), DeviceFault>
         ensures meaning { λ r. ⌜ Happens (λ _. Unit {0}) (imageMedium (bytesOf (now (self .entry)))) (did-read page (now (buffer .exit)) r) (λ _. Unit {0}) (imageMedium (bytesOf (now (self .exit)))) ⌝ }
-        ensures settled { λ r. ⌜ ImageReads (now (self .entry)) page (now (buffer .exit)) r (now (self .exit)) ⌝ }
+        ensures exact { λ r. ⌜ ImageReads (now (self .entry)) page (now (buffer .exit)) r (now (self .exit)) ⌝ }
     {
         *buffer = [0; PAGE_SIZE];
         if page >= self.pages() {

@@ -72,7 +72,7 @@ pub impl Reader for WriteBehind as WriteBehindReader {
 
     fn read(&mut self, page: u32, buffer: &mut Page) -> Result<(), DeviceFault>
         ensures meaning { λ r. ⌜ Happens (behindPast (now (self .entry))) (behindMedium (now (self .entry))) (did-read page (now (buffer .exit)) r) (behindPast (now (self .exit))) (behindMedium (now (self .exit))) ⌝ }
-        ensures settled { λ r. ⌜ BehindReads (now (self .entry)) page (now (buffer .exit)) r (now (self .exit)) ⌝ }
+        ensures exact { λ r. ⌜ BehindReads (now (self .entry)) page (now (buffer .exit)) r (now (self .exit)) ⌝ }
     {
         self.bank.read(page, buffer)
     }
@@ -81,7 +81,7 @@ pub impl Reader for WriteBehind as WriteBehindReader {
 pub impl Device for WriteBehind as WriteBehindDevice {
     fn write(&mut self, page: u32, bytes: &Page) -> Result<(), DeviceFault>
         ensures meaning { λ r. ⌜ Happens (behindPast (now (self .entry))) (behindMedium (now (self .entry))) (did-write page (now (bytes .entry)) r) (behindPast (now (self .exit))) (behindMedium (now (self .exit))) ⌝ }
-        ensures settled { λ r. ⌜ BehindWrites (now (self .entry)) page (now (bytes .entry)) r (now (self .exit)) ⌝ }
+        ensures exact { λ r. ⌜ BehindWrites (now (self .entry)) page (now (bytes .entry)) r (now (self .exit)) ⌝ }
     {
         self.bank.write(page, bytes)?;
         self.changed[page as usize] = true;
@@ -90,7 +90,7 @@ pub impl Device for WriteBehind as WriteBehindDevice {
 
     fn sync(&mut self) -> Result<(), DeviceFault>
         ensures meaning { λ r. ⌜ Happens (behindPast (now (self .entry))) (behindMedium (now (self .entry))) (did-sync r) (behindPast (now (self .exit))) (behindMedium (now (self .exit))) ⌝ }
-        ensures settled { λ r. ⌜ BehindSyncs (now (self .entry)) r (now (self .exit)) ⌝ }
+        ensures exact { λ r. ⌜ BehindSyncs (now (self .entry)) r (now (self .exit)) ⌝ }
     {
         self.bank.admit()?;
         self.durable.copy_from(&self.bank.memory);
@@ -102,7 +102,7 @@ pub impl Device for WriteBehind as WriteBehindDevice {
 pub impl PowerCycle for WriteBehind as WriteBehindPowerCycle {
     fn power_return(&mut self)
         ensures meaning { λ _. ⌜ Happens (behindPast (now (self .entry))) (behindMedium (now (self .entry))) power-returned (behindPast (now (self .exit))) (behindMedium (now (self .exit))) ⌝ }
-        ensures settled { λ _. ⌜ BehindReturns (now (self .entry)) (now (self .exit)) ⌝ }
+        ensures exact { λ _. ⌜ BehindReturns (now (self .entry)) (now (self .exit)) ⌝ }
     {
         self.bank.memory.copy_from(&self.durable);
         clear(&mut self.changed);

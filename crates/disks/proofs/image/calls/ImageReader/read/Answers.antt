@@ -12,4 +12,4 @@ returns c =
     let d : (c .args .page * 512 + 512) - c .args .page * 512 ≡ 512 = omega arith in
     let e : c .copy-from-slice .last .self ≡ take 512 (drop (c .args .page * 512) (bytesOf (c .args .self .now))) = cc in
     let l : c .args .page < length (bytesOf (c .args .self .now)) / 512 = search needs in
-    record { meaning = search needs; settled = record { answers = cond-below _ _ _ _ l; shows = e; same-bytes = search needs } }
+    record { meaning = search needs; exact = record { answers = cond-below _ _ _ _ l; shows = e; same-bytes = search needs } }
