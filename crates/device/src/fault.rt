@@ -1,6 +1,7 @@
 ghost use mathlib.Core.Path.{_≡_};
 ghost use Rattle.std.specs.declared.option.Option.the-variants.{Some};
 ghost use Rattle.device.specs.Faults.{words};
+use std::error::Error;
 use std::fmt;
 
 // Why a device refuses a call.
@@ -30,3 +31,5 @@ pub impl fmt::Display for DeviceFault as DeviceFaultDisplay {
         f.write_str(self.as_str())
     }
 }
+
+pub impl Error for DeviceFault as DeviceFaultError {}

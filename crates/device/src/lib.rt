@@ -14,6 +14,7 @@ pub use fault::DeviceFault;
 pub use fault::DeviceFaultDebug;
 pub use fault::DeviceFaultDisplay;
 pub use fault::DeviceFaultEq;
+pub use fault::DeviceFaultError;
 pub use fault::DeviceFaultPartialEq;
 
 // The bytes of a page.

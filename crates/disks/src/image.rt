@@ -9,6 +9,7 @@ pub use fault::ImageFault;
 pub use fault::ImageFaultDebug;
 pub use fault::ImageFaultDisplay;
 pub use fault::ImageFaultEq;
+pub use fault::ImageFaultError;
 pub use fault::ImageFaultPartialEq;
 
 // The bytes of a device, for reading only. It is never off.

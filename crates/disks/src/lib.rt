@@ -10,6 +10,7 @@ pub use image::ImageFault;
 pub use image::ImageFaultDebug;
 pub use image::ImageFaultDisplay;
 pub use image::ImageFaultEq;
+pub use image::ImageFaultError;
 pub use image::ImageFaultPartialEq;
 pub use image::ImageReader;
 pub use write_behind::WriteBehind;

@@ -40,6 +40,16 @@ impl WriteThrough {
         })
     }
 
+    // The device after a power return, with another limit.
+    pub fn with_limit(mut self, limit: u64) -> Self
+        ensures pages { λ r. ⌜ pagesOf (r .bank) ≡ pagesOf (self .bank) ⌝ }
+        ensures fuse { λ r. ⌜ r .bank .fuse ≡ record { limit = limit; calls = 0 } ⌝ }
+        ensures past { λ _. ⌜ NeverVolatile [] ⌝ }
+    {
+        self.bank.fuse = Fuse::new(limit);
+        self
+    }
+
     // The calls counted since the device was made, or since power last returned.
     pub fn calls(&self) -> u64
         ensures { λ r. ⌜ r ≡ now (self .entry) .bank .fuse .calls ⌝ }

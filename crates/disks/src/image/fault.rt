@@ -1,6 +1,7 @@
 ghost use mathlib.Core.Path.{_≡_};
 ghost use Rattle.std.specs.declared.option.Option.the-variants.{Some};
 ghost use Rattle.disks.specs.ImageFaults.{words};
+use std::error::Error;
 use std::fmt;
 
 // Why bytes are no image.
@@ -30,3 +31,5 @@ pub impl fmt::Display for ImageFault as ImageFaultDisplay {
         f.write_str(self.as_str())
     }
 }
+
+pub impl Error for ImageFault as ImageFaultError {}

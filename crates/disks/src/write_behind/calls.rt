@@ -7,7 +7,7 @@ ghost use mathlib.Core.Bool.{false};
 ghost use mathlib.Core.List.{[]};
 ghost use Rattle.device.specs.Medium.{zeros};
 ghost use Rattle.device.specs.History.{Happens, did-read, did-write, did-sync, power-returned};
-ghost use Rattle.disks.specs.Banks.{pagesOf};
+ghost use Rattle.disks.specs.Banks.{pagesOf, sizeOf};
 ghost use Rattle.disks.specs.BehindCalls.{durableOf, changedOf, behindMedium, behindPast, BehindReads, BehindWrites, BehindSyncs, BehindReturns};
 use crate::bank::Bank;
 use crate::fuse::Fuse;
@@ -51,6 +51,19 @@ impl WriteBehind {
             durable,
             changed,
         })
+    }
+
+    // The device after a power return, with another limit.
+    pub fn with_limit(mut self, limit: u64) -> Self
+        ensures pages { λ r. ⌜ pagesOf (r .bank) ≡ durableOf self ⌝ }
+        ensures durable { λ r. ⌜ durableOf r ≡ durableOf self ⌝ }
+        ensures changed { λ r. ⌜ changedOf r ≡ replicate (sizeOf (self .bank)) false ⌝ }
+        ensures fuse { λ r. ⌜ r .bank .fuse ≡ record { limit = limit; calls = 0 } ⌝ }
+        ensures past { λ r. ⌜ behindPast r [] ⌝ }
+    {
+        self.power_return();
+        self.bank.fuse = Fuse::new(limit);
+        self
     }
 
     // The calls counted since the device was made, or since power last returned.
