@@ -1,0 +1,1 @@
+// The order of keys, separators, and where an overfull list is cut.
