@@ -1,0 +1,4 @@
+pub mod Pages
+pub mod Costs
+pub mod Tested
+pub mod Wholes

@@ -1,0 +1,5 @@
+pub mod Words
+pub mod Layout
+pub mod Kinds
+pub mod Reading
+pub mod Packed

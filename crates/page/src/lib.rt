@@ -1,0 +1,11 @@
+// Pages of cells: their layout, their first fault, and their edits.
+mod bytes;
+mod cell;
+mod draft;
+mod fault;
+mod test;
+
+pub use fault::Cause;
+pub use fault::CauseDebug;
+pub use fault::CauseEq;
+pub use fault::CausePartialEq;
