@@ -1,0 +1,4 @@
+pub mod Order
+pub mod Separators
+pub mod Balance
+mod Steps
