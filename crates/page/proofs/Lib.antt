@@ -2,3 +2,6 @@ pub mod Pages
 pub mod Costs
 pub mod Tested
 pub mod Wholes
+pub mod Orders
+pub mod Faults
+pub mod Places

@@ -3,3 +3,4 @@ pub mod Layout
 pub mod Kinds
 pub mod Reading
 pub mod Packed
+pub mod Places

@@ -4,6 +4,8 @@ ghost use mathlib.Core.List.{List, _++_, [], _∷_};
 ghost use Prim.Native.Nat.{ℕ, _+_, _-_, _*_, _≤_, _<_};
 ghost use lib.ListN.{length, getD};
 ghost use Rattle.std.specs.Holes.{between};
+ghost use mathlib.Core.Bool.{true};
+ghost use Rattle.page.specs.Reading.{every};
 ghost use Rattle.page.specs.Layout.{Laid, bodies, cost, cellsOf, leftOf, sumOf, edgeAt};
 use crate::bytes::put;
 use crate::bytes::read16;
@@ -95,4 +97,13 @@ pub fn cost_between<C: Cell>(page: &Page, i: usize, j: usize) -> usize
     ensures { λ r. ⌜ r ≡ cost (between i j (cellsOf (now (page .entry)))) ⌝ }
 {
     2 * (j - i) + edge(page, i) - edge(page, j)
+}
+
+pub fn key_at<C: Cell>(page: &Page, i: usize) -> &[u8]
+    requires laid { ⌜ Laid (rules .kind) (now page) ⌝ }
+    requires goods { ⌜ every (rules .good) (cellsOf (now page)) ≡ true ⌝ }
+    requires within { ⌜ i < length (cellsOf (now page)) ⌝ }
+    ensures { λ r. ⌜ now r ≡ rules .key (getD (cellsOf (now (page .entry))) i []) ⌝ }
+{
+    C::key_of(cell_at::<C>(page, i))
 }

@@ -3,6 +3,7 @@ mod bytes;
 mod cell;
 mod draft;
 mod fault;
+mod search;
 mod test;
 
 pub use fault::Cause;

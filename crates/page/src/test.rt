@@ -11,12 +11,13 @@ ghost use Rattle.page.specs.Reading.{every, layout, rising, shapeFault, firstF
 ghost use Rattle.page.specs.Words.{word16};
 use crate::bytes::read16;
 use crate::cell::Cell;
-use crate::draft::cell_at;
 use crate::draft::count_of;
 use crate::draft::edge;
+use crate::draft::key_at;
 use crate::draft::leftmost_of;
 use crate::fault::Cause;
 use checksum::is_sealed;
+use cuts::key_less;
 use device::Page;
 
 // Whether the bytes from one place up to another are zero.
@@ -84,4 +85,44 @@ pub fn is_laid_out<C: Cell>(page: &Page) -> bool
         return false;
     }
     C::allows_leftmost(leftmost_of(page))
+}
+
+// Whether each key is below the next.
+fn is_rising<C: Cell>(page: &Page) -> bool
+    requires laid { ⌜ Laid (rules .kind) (now page) ⌝ }
+    requires goods { ⌜ every (rules .good) (cellsOf (now page)) ≡ true ⌝ }
+    ensures { λ r. ⌜ r ≡ rising (rules .key) (cellsOf (now (page .entry))) ⌝ }
+{
+    let n = count_of(page);
+    for i in 1..n {
+        if !key_less(key_at::<C>(page, i - 1), key_at::<C>(page, i)) {
+            return false;
+        }
+    }
+    true
+}
+
+// The first fault of the page, its checksum left out.
+pub fn shape_fault<C: Cell>(page: &Page) -> Option<Cause>
+    ensures { λ r. ⌜ r ≡ shapeFault rules (now (page .entry)) ⌝ }
+{
+    if page[0] != C::kind_byte() {
+        return Some(Cause::Kind);
+    }
+    if !is_laid_out::<C>(page) {
+        return Some(Cause::Layout);
+    }
+    if !is_rising::<C>(page) {
+        return Some(Cause::Order);
+    }
+    None
+}
+
+pub fn first_fault<C: Cell>(page: &Page) -> Option<Cause>
+    ensures { λ r. ⌜ r ≡ firstFault rules (now (page .entry)) ⌝ }
+{
+    if !is_sealed(page) {
+        return Some(Cause::Checksum);
+    }
+    shape_fault::<C>(page)
 }
