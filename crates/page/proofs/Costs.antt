@@ -4,13 +4,13 @@ use mathlib.Core.Path.{_≡_, refl, sym, ap, _∙_}
 use mathlib.Core.List.{List, [], _∷_, _++_}
 use native.Mathlib.Omega.{arith}
 use native.Mathlib.Numerals.{add-one}
-use lib.ListN.{length, take, drop}
+use lib.ListN.{length, getD, take, drop}
 use Rattle.std.specs.Holes.{between}
 use Rattle.std.proofs.shelf.Lists.{append-assoc, take-append-drop, take-take, length-append}
 use Rattle.std.proofs.shelf.Parts.{between-is}
 use Rattle.std.proofs.shelf.Edits.{length-between}
 use Rattle.page.specs.Layout.{cost, bodies}
-use Rattle.page.proofs.Pages.{top, top-low, bodies-append, cost-append, cost-one, cost-none, cost-split, cost-drop, front-is, back-is, all-is}
+use Rattle.page.proofs.Pages.{top, top-low, cost-take, bodies-append, cost-append, cost-one, cost-none, cost-split, cost-drop, front-is, back-is, all-is}
 
 -- the front of a list up to j is that up to i, and then what lies between
 split-take : (xs : List (List ℕ)) (i j : ℕ) → i ≤ j → take j xs ≡ take i xs ++ between i j xs
@@ -40,3 +40,12 @@ cost-edges xs i j h l room =
     let f = bodies-append (take i xs) (between i j xs) in
     let n : length (between i j xs) ≡ j - i = length-between xs i j l in
     omega (arith, ap length (ap bodies e), ap length f, length-append (bodies (between i j xs)) (bodies (take i xs)), n, top-low xs j)
+
+-- a part costs no more than the whole
+pub cost-part : (xs : List (List ℕ)) (i j : ℕ) → cost (between i j xs) ≤ cost xs
+cost-part xs i j = omega (arith, cost-take (j - i) (drop i xs), cost-split i xs)
+
+-- one cell more of a part
+pub one-more : (xs s : List (List ℕ)) (a i : ℕ) (x : List ℕ) {t : List (List ℕ)} → t ≡ s ++ x ∷ [] → s ≡ between a i xs → x ≡ getD xs i []
+    → between a (i + 1) xs ≡ between a i xs ++ getD xs i [] ∷ [] → t ≡ between a (i + 1) xs
+one-more xs s a i x et es ex more = cc

@@ -5,3 +5,4 @@ pub mod Wholes
 pub mod Orders
 pub mod Faults
 pub mod Places
+pub mod Splices

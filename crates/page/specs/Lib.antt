@@ -4,3 +4,4 @@ pub mod Kinds
 pub mod Reading
 pub mod Packed
 pub mod Places
+pub mod Splices

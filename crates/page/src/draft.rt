@@ -94,7 +94,8 @@ pub fn cost_between<C: Cell>(page: &Page, i: usize, j: usize) -> usize
     requires laid { ⌜ Laid (rules .kind) (now page) ⌝ }
     requires ordered { ⌜ i ≤ j ⌝ }
     requires within { ⌜ j ≤ length (cellsOf (now page)) ⌝ }
-    ensures { λ r. ⌜ r ≡ cost (between i j (cellsOf (now (page .entry)))) ⌝ }
+    ensures value { λ r. ⌜ r ≡ cost (between i j (cellsOf (now (page .entry)))) ⌝ }
+    ensures bound { λ r. ⌜ r ≤ 496 ⌝ }
 {
     2 * (j - i) + edge(page, i) - edge(page, j)
 }

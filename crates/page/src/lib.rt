@@ -2,8 +2,10 @@
 mod bytes;
 mod cell;
 mod draft;
+mod edit;
 mod fault;
 mod search;
+mod splice;
 mod test;
 
 pub use fault::Cause;

@@ -1,0 +1,85 @@
+// Edits of pages: each builds pages anew from a list of cells. One text serves every kind of cell.
+ghost use mathlib.Core.Path.{_≡_};
+ghost use mathlib.Core.List.{[]};
+ghost use Prim.Native.Nat.{_+_, _<_, _≤_};
+ghost use lib.ListN.{length, getD};
+ghost use Rattle.std.specs.Holes.{between};
+ghost use Rattle.cuts.specs.Cuts.{total, fair, middle};
+ghost use Rattle.page.specs.Layout.{Laid, cost, cellsOf, leftOf, sumOf};
+ghost use Rattle.page.specs.Splices.{looseIn, cellsIn, Spliced, bodyCost};
+use crate::cell::Cell;
+use crate::draft::append;
+use crate::draft::cell_at;
+use crate::draft::cost_between;
+use crate::draft::count_of;
+use crate::draft::start;
+use crate::splice::Splice;
+use device::Page;
+
+// How many loose cells there are.
+fn loose(list: &Splice) -> usize
+    ensures { λ r. ⌜ r ≡ length (looseIn (now (list .entry))) ⌝ }
+{
+    match list.middle {
+        Some(_) => 1,
+        None => 0,
+    }
+}
+
+pub fn len<C: Cell>(list: &Splice) -> usize
+    requires { ⌜ Spliced (rules .kind) (now list) ⌝ }
+    ensures { λ r. ⌜ r ≡ length (cellsIn (now (list .entry))) ⌝ }
+{
+    list.keep + loose(list) + (count_of(list.back) - list.skip)
+}
+
+pub fn body<'a, C: Cell>(list: &Splice<'a>, i: usize) -> &'a [u8]
+    requires spliced { ⌜ Spliced (rules .kind) (now list) ⌝ }
+    requires within { ⌜ i < length (cellsIn (now list)) ⌝ }
+    ensures { λ r. ⌜ now r ≡ getD (cellsIn (now (list .entry))) i [] ⌝ }
+{
+    if i < list.keep {
+        return cell_at::<C>(list.front, i);
+    }
+    let rest = i - list.keep;
+    match list.middle {
+        Some(cell) => {
+            if rest == 0 {
+                cell
+            } else {
+                cell_at::<C>(list.back, list.skip + (rest - 1))
+            }
+        }
+        None => cell_at::<C>(list.back, list.skip + rest),
+    }
+}
+
+// The bytes that the list costs.
+pub fn cost<C: Cell>(list: &Splice) -> usize
+    requires { ⌜ Spliced (rules .kind) (now list) ⌝ }
+    ensures { λ r. ⌜ r ≡ cost (cellsIn (now (list .entry))) ⌝ }
+{
+    let ends = cost_between::<C>(list.front, 0, list.keep)
+        + cost_between::<C>(list.back, list.skip, count_of(list.back));
+    match list.middle {
+        Some(cell) => ends + 2 + cell.len(),
+        None => ends,
+    }
+}
+
+// The page of the cells from one place up to another.
+pub fn build<C: Cell>(list: &Splice, from: usize, to: usize, leftmost: u32, page: &mut Page)
+    requires spliced { ⌜ Spliced (rules .kind) (now list) ⌝ }
+    requires ordered { ⌜ from ≤ to ⌝ }
+    requires within { ⌜ to ≤ length (cellsIn (now list)) ⌝ }
+    requires room { ⌜ cost (between from to (cellsIn (now list))) ≤ 496 ⌝ }
+    ensures laid { λ _. ⌜ Laid (rules .kind) (now (page .exit)) ⌝ }
+    ensures left { λ _. ⌜ leftOf (now (page .exit)) ≡ leftmost ⌝ }
+    ensures sum { λ _. ⌜ sumOf (now (page .exit)) ≡ 0 ⌝ }
+    ensures cells { λ _. ⌜ cellsOf (now (page .exit)) ≡ between from to (cellsIn (now (list .entry))) ⌝ }
+{
+    start::<C>(page, leftmost);
+    for i in from..to {
+        append::<C>(page, body::<C>(list, i));
+    }
+}
