@@ -6,3 +6,4 @@ pub mod Orders
 pub mod Faults
 pub mod Places
 pub mod Splices
+pub mod Cuts

@@ -57,7 +57,8 @@ pub fn body<'a, C: Cell>(list: &Splice<'a>, i: usize) -> &'a [u8]
 // The bytes that the list costs.
 pub fn cost<C: Cell>(list: &Splice) -> usize
     requires { ⌜ Spliced (rules .kind) (now list) ⌝ }
-    ensures { λ r. ⌜ r ≡ cost (cellsIn (now (list .entry))) ⌝ }
+    ensures value { λ r. ⌜ r ≡ cost (cellsIn (now (list .entry))) ⌝ }
+    ensures bound { λ r. ⌜ r ≤ 1188 ⌝ }
 {
     let ends = cost_between::<C>(list.front, 0, list.keep)
         + cost_between::<C>(list.back, list.skip, count_of(list.back));
@@ -82,4 +83,40 @@ pub fn build<C: Cell>(list: &Splice, from: usize, to: usize, leftmost: u32, page
     for i in from..to {
         append::<C>(page, body::<C>(list, i));
     }
+}
+
+// How many cells an overfull leaf keeps: the cut whose larger part is cheapest.
+pub fn leaf_cut<C: Cell>(list: &Splice) -> usize
+    requires { ⌜ Spliced (rules .kind) (now list) ⌝ }
+    ensures { λ r. ⌜ r ≡ fair bodyCost 0 (cellsIn (now (list .entry))) ⌝ }
+{
+    let n = len::<C>(list);
+    let mut left = 0;
+    let mut right = cost::<C>(list);
+    for i in 0..n {
+        let one = 2 + body::<C>(list, i).len();
+        right -= one;
+        if left >= right {
+            return i;
+        }
+        left += one;
+    }
+    n
+}
+
+// Which cell an overfull branch gives up: the first at which it and those before it cost more than half.
+pub fn branch_cut<C: Cell>(list: &Splice) -> usize
+    requires { ⌜ Spliced (rules .kind) (now list) ⌝ }
+    ensures { λ r. ⌜ r ≡ middle bodyCost (total bodyCost (cellsIn (now (list .entry)))) 0 (cellsIn (now (list .entry))) ⌝ }
+{
+    let n = len::<C>(list);
+    let all = cost::<C>(list);
+    let mut left = 0;
+    for i in 0..n {
+        left += 2 + body::<C>(list, i).len();
+        if 2 * left > all {
+            return i;
+        }
+    }
+    n
 }

@@ -13,9 +13,13 @@ add-result-in-Some g c =
 pub returns-in-Some : need.returns-in-Some
 returns-in-Some g c =
     let s = c .args .list .now in
-    omega (arith, cost-spliced (g .C·Cell .rules .kind) s (c .pre) (c .count-of .result) (c .count-of .ensures), ap cost (one-loose s _ (c .in-Some .is)), cost-one (c .in-Some .cell .now))
+    let e = cost-spliced (g .C·Cell .rules .kind) s (c .pre) (c .count-of .result) (c .count-of .ensures) in
+    let f = ap cost (one-loose s _ (c .in-Some .is)) in
+    let h = cost-one (c .in-Some .cell .now) in
+    record { value = omega (arith, e, f, h); bound = omega (arith, f, h, c .pre .small) }
 
 pub returns-in-None : need.returns-in-None
 returns-in-None g c =
     let s = c .args .list .now in
-    omega (arith, cost-spliced (g .C·Cell .rules .kind) s (c .pre) (c .count-of .result) (c .count-of .ensures), ap cost (no-loose s (c .in-None .is)), cost-none)
+    let e = cost-spliced (g .C·Cell .rules .kind) s (c .pre) (c .count-of .result) (c .count-of .ensures) in
+    record { value = omega (arith, e, ap cost (no-loose s (c .in-None .is)), cost-none); bound = omega arith }
