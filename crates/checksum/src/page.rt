@@ -1,4 +1,5 @@
 ghost use mathlib.Core.Path.{_≡_};
+ghost use Prim.Native.Nat.{_<_, _^_};
 ghost use Rattle.checksum.specs.Sealed.{checksumOf, sealed, isSealed};
 use crate::crc::ALL_BITS;
 use crate::crc::update;
@@ -15,7 +16,8 @@ pub fn checksum(page: &Page) -> u32
 
 // Writes the checksum to its place.
 pub fn seal(page: &mut Page)
-    ensures { λ _. ⌜ now (page .exit) ≡ sealed (now (page .entry)) ⌝ }
+    ensures after { λ _. ⌜ now (page .exit) ≡ sealed (now (page .entry)) ⌝ }
+    ensures word { λ _. ⌜ checksumOf (now (page .entry)) < 2 ^ 32 ⌝ }
 {
     let sum = checksum(page);
     page[12..16].copy_from_slice(&sum.to_le_bytes());

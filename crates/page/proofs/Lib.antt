@@ -7,3 +7,4 @@ pub mod Faults
 pub mod Places
 pub mod Splices
 pub mod Cuts
+pub mod Sealing

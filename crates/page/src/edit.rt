@@ -4,8 +4,9 @@ ghost use mathlib.Core.List.{[]};
 ghost use Prim.Native.Nat.{_+_, _<_, _≤_};
 ghost use lib.ListN.{length, getD};
 ghost use Rattle.std.specs.Holes.{between};
+ghost use Rattle.checksum.specs.Crc.{crcOf};
 ghost use Rattle.cuts.specs.Cuts.{total, fair, middle};
-ghost use Rattle.page.specs.Layout.{Laid, cost, cellsOf, leftOf, sumOf};
+ghost use Rattle.page.specs.Layout.{Laid, Shows, cost, cellsOf, leftOf, sumOf, laidOut, pageOf};
 ghost use Rattle.page.specs.Splices.{looseIn, cellsIn, Spliced, bodyCost};
 use crate::cell::Cell;
 use crate::draft::append;
@@ -14,6 +15,8 @@ use crate::draft::cost_between;
 use crate::draft::count_of;
 use crate::draft::start;
 use crate::splice::Splice;
+use checksum::seal;
+use device::PAGE_SIZE;
 use device::Page;
 
 // How many loose cells there are.
@@ -119,4 +122,19 @@ pub fn branch_cut<C: Cell>(list: &Splice) -> usize
         }
     }
     n
+}
+
+// The page of the cells from one place up to another, with its checksum.
+pub fn part<C: Cell>(list: &Splice, from: usize, to: usize, leftmost: u32) -> Page
+    requires spliced { ⌜ Spliced (rules .kind) (now list) ⌝ }
+    requires ordered { ⌜ from ≤ to ⌝ }
+    requires within { ⌜ to ≤ length (cellsIn (now list)) ⌝ }
+    requires room { ⌜ cost (between from to (cellsIn (now list))) ≤ 496 ⌝ }
+    ensures value { λ r. ⌜ r ≡ pageOf (rules .kind) leftmost (between from to (cellsIn (now (list .entry)))) ⌝ }
+    ensures shows { λ r. ⌜ Shows (rules .kind) r leftmost (crcOf (laidOut (rules .kind) leftmost 0 (between from to (cellsIn (now (list .entry)))))) (between from to (cellsIn (now (list .entry)))) ⌝ }
+{
+    let mut page = [0; PAGE_SIZE];
+    build::<C>(list, from, to, leftmost, &mut page);
+    seal(&mut page);
+    page
 }
