@@ -8,3 +8,4 @@ pub mod Places
 pub mod Splices
 pub mod Cuts
 pub mod Sealing
+pub mod Sounds

@@ -22,7 +22,6 @@ pub no-loose : (s : Splice) → s .middle ≡ None → looseIn s ≡ []
 no-loose s e = ap (λ o. listOf (mapped now o)) e
 
 module _ (kind : ℕ) (s : Splice) (p : Spliced kind s) where
-
   front-length : length (take (s .keep) (cellsOf (now (s .front)))) ≡ s .keep
   front-length = length-take-le (s .keep) (cellsOf (now (s .front))) (p .keep)
 

@@ -5,3 +5,4 @@ pub mod Reading
 pub mod Packed
 pub mod Places
 pub mod Splices
+pub mod Views

@@ -1,14 +1,18 @@
 // Pages of cells: their layout, their first fault, and their edits.
+mod branch;
 mod bytes;
 mod cell;
 mod draft;
 mod edit;
 mod fault;
+mod leaf;
 mod search;
 mod splice;
 mod test;
 
+pub use branch::BranchPage;
 pub use fault::Cause;
 pub use fault::CauseDebug;
 pub use fault::CauseEq;
 pub use fault::CausePartialEq;
+pub use leaf::LeafPage;

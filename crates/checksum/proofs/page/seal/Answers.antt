@@ -9,6 +9,6 @@ pub returns : need.returns
 unfolding sealed
 returns c = record {
   after = put-over 12 4 (c .args .page .now) _ (le32 (checksumOf (c .args .page .now))) refl
-    (c .copy-from-slice .ensures .after ∙ (c .to-le-bytes .ensures ∙ ap le32 (c .checksum-sum .ensures)));
+      (c .copy-from-slice .ensures .after ∙ (c .to-le-bytes .ensures ∙ ap le32 (c .checksum-sum .ensures)));
   word = search needs;
 }

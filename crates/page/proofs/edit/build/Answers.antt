@@ -27,8 +27,9 @@ loop-i-again g c =
     let xs = cellsIn (c .args .list .now) in
     let i = c .loop-i .i in
     let a = c .args .from in
-    let more = between-more xs a i [] (c .loop-i .kept .i) (omega arith) in
-    (c .append .ensures .laid,
-     c .append .ensures .left ∙ c .loop-i .inv .1,
-     c .append .ensures .sum ∙ c .loop-i .inv .2,
-     one-more xs (cellsOf (c .loop-i .page)) a i (c .body .result .now) (c .append .ensures .cells) (c .loop-i .inv .3) (c .body .ensures) more)
+    let more = between-more xs a i [] (c .loop-i .kept .i) (omega arith) in (
+      c .append .ensures .laid,
+      c .append .ensures .left ∙ c .loop-i .inv .1,
+      c .append .ensures .sum ∙ c .loop-i .inv .2,
+      one-more xs (cellsOf (c .loop-i .page)) a i (c .body .result .now) (c .append .ensures .cells) (c .loop-i .inv .3) (c .body .ensures) more,
+    )

@@ -1,0 +1,35 @@
+-- What pages hold: a leaf its pairs, a branch its children and separators.
+use Prim.Native.Nat.{ℕ}
+use mathlib.Core.List.{List, map}
+use Rattle.std.specs.declared.option.Option.the-variants.{Some, None}
+use Rattle.std.specs.declared.result.Result.{Result}
+use Rattle.std.specs.declared.result.Result.the-variants.{Ok, Err}
+use mathlib.Core.Path.{_≡_}
+use Rattle.cuts.specs.Nodes.{Pair, Cell, Branch}
+use Rattle.page.specs.Kinds.{pairOf, cellOf, leafRules, branchRules}
+use Rattle.page.specs.Layout.{cellsOf, leftOf}
+use Rattle.page.specs.Reading.{firstFault}
+use Rattle.page.specs.declared.fault.Cause.{Cause}
+use Rattle.page.specs.declared.leaf.LeafPage.{LeafPage}
+use Rattle.page.specs.declared.branch.BranchPage.{BranchPage}
+
+abbrev pub pairsIn : List ℕ → List Pair
+pairsIn bytes = map pairOf (cellsOf bytes)
+
+abbrev pub branchIn : List ℕ → Branch ℕ
+branchIn bytes = record { first = leftOf bytes; rest = map cellOf (cellsOf bytes) }
+
+abbrev pub leafPairs : LeafPage → List Pair
+leafPairs p = pairsIn (p .bytes)
+
+abbrev pub branchNode : BranchPage → Branch ℕ
+branchNode p = branchIn (p .bytes)
+
+-- what reading these bytes as a leaf answers, and as a branch
+abbrev pub ReadsLeaf : List ℕ → Result LeafPage Cause → Type 0
+ReadsLeaf b (Ok p) = (p .bytes ≡ b) × (firstFault leafRules b ≡ None)
+ReadsLeaf b (Err c) = firstFault leafRules b ≡ Some c
+
+abbrev pub ReadsBranch : List ℕ → Result BranchPage Cause → Type 0
+ReadsBranch b (Ok p) = (p .bytes ≡ b) × (firstFault branchRules b ≡ None)
+ReadsBranch b (Err c) = firstFault branchRules b ≡ Some c
