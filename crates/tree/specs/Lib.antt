@@ -1,0 +1,5 @@
+pub mod Maps
+pub mod Trees
+pub mod Edits
+pub mod Sound
+pub mod Laws
