@@ -2,7 +2,9 @@
 use Prim.Native.Nat.{ℕ, _≤_}
 use mathlib.Core.Path.{_≡_}
 use mathlib.Core.List.{List}
+use lib.ListN.{length}
 use Rattle.std.specs.declared.option.Option.the-variants.{Some, None}
+use Rattle.cuts.specs.Keys.{KeyFits}
 use Rattle.cuts.specs.Nodes.{Pair}
 use Rattle.tree.specs.Maps.{insert, delete, lookup, Rising}
 use Rattle.tree.specs.Trees.{BTree, pairsOf}
@@ -25,3 +27,8 @@ TreesAreMaps = (b : BTree) → SoundTree b → Rising (pairsOf b)
 abbrev pub PutsInsertAndRemovesDelete : Type 0
 PutsInsertAndRemovesDelete = (b : BTree) → SoundTree b → (k v : List ℕ)
     → (pairsOf (put b k v) ≡ insert k v (pairsOf b)) × (pairsOf (remove b k) ≡ delete k (pairsOf b))
+
+-- and it stays sound
+abbrev pub EditsKeepTreesSound : Type 0
+EditsKeepTreesSound = (b : BTree) → SoundTree b
+    → ((k v : List ℕ) → KeyFits k → length v ≤ 128 → SoundTree (put b k v)) × ((k : List ℕ) → SoundTree (remove b k))
