@@ -4,3 +4,4 @@ pub mod Flat
 pub mod Around
 pub mod Leaves
 pub mod Kept
+pub mod Searches

@@ -2,4 +2,5 @@ pub mod Maps
 pub mod Trees
 pub mod Edits
 pub mod Sound
+pub mod Search
 pub mod Laws

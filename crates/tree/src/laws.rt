@@ -1,6 +1,7 @@
 // The laws of trees. These functions do nothing: each carries the law in its contract.
 ghost use Rattle.tree.specs.Laws.{RisingPairsAreAMap, TreesAreMaps, PutsInsertAndRemovesDelete};
-ghost use Rattle.tree.specs.Laws.{EditsKeepTreesSound};
+ghost use Rattle.tree.specs.Laws.{EditsKeepTreesSound, SearchFindsThePair, FirstAboveIsTheNext};
+ghost use Rattle.tree.specs.Laws.{AfterFindsTheNextPair};
 
 pub fn rising_pairs_are_a_map() -> u8
     ensures { λ _. ⌜ RisingPairsAreAMap ⌝ }
@@ -22,6 +23,24 @@ pub fn puts_insert_and_removes_delete() -> u8
 
 pub fn edits_keep_trees_sound() -> u8
     ensures { λ _. ⌜ EditsKeepTreesSound ⌝ }
+{
+    0
+}
+
+pub fn search_finds_the_pair() -> u8
+    ensures { λ _. ⌜ SearchFindsThePair ⌝ }
+{
+    0
+}
+
+pub fn first_above_is_the_next() -> u8
+    ensures { λ _. ⌜ FirstAboveIsTheNext ⌝ }
+{
+    0
+}
+
+pub fn after_finds_the_next_pair() -> u8
+    ensures { λ _. ⌜ AfterFindsTheNextPair ⌝ }
 {
     0
 }
