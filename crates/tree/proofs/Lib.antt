@@ -5,3 +5,5 @@ pub mod Around
 pub mod Leaves
 pub mod Kept
 pub mod Searches
+pub mod ByPlace
+pub mod Natural

@@ -2,17 +2,19 @@
 use Prim.Native.Nat.{ℕ, _≤_}
 use mathlib.Core.Path.{_≡_}
 use mathlib.Core.List.{List}
+use mathlib.Core.Bool.{Bool}
 use lib.ListN.{length}
 use Rattle.std.specs.shelf.Lists.{All}
 use Rattle.std.specs.declared.option.Option.{Option}
 use Rattle.std.specs.declared.option.Option.the-variants.{Some, None}
 use Rattle.cuts.specs.Keys.{Below, AtMost, KeyFits}
-use Rattle.cuts.specs.Nodes.{Pair}
+use Rattle.cuts.specs.Nodes.{Pair, Branch}
 use Rattle.tree.specs.Maps.{insert, delete, lookup, firstAbove, Rising}
-use Rattle.tree.specs.Trees.{BTree, pairsOf}
-use Rattle.tree.specs.Edits.{put, remove}
+use Rattle.tree.specs.Trees.{Tree, BTree, pairsOf, branchCost}
+use Rattle.tree.specs.Edits.{Grown, cutBranch, fit, mergeBranches, placed, mended, put, remove}
 use Rattle.tree.specs.Sound.{SoundTree}
-use Rattle.tree.specs.Search.{find, after}
+use Rattle.tree.specs.Search.{picked, childAt, find, after}
+use Rattle.tree.specs.Places.{splice, spliceTwo, mapBranch, mapGrown}
 
 -- a list of pairs whose keys rise is a map, which insertion and deletion change at one key
 abbrev pub RisingPairsAreAMap : Type 0
@@ -51,3 +53,21 @@ FirstAboveIsTheNext = (ps : List Pair) → Rising ps → (k : List ℕ) → Next
 -- the key k may be any bytes, also none
 abbrev pub AfterFindsTheNextPair : Type 0
 AfterFindsTheNextPair = (b : BTree) → SoundTree b → (k : List ℕ) → after (b .height) (b .root) k ≡ firstAbove k (pairsOf b)
+
+-- the steps at a branch commute with a function f of the children
+pub record StepsCommute {X Y : Type 0} (f : X → Y) : Type 0 where
+  pub fitting : (b : Branch X) → mapGrown (mapBranch f) (fit branchCost cutBranch b) ≡ fit branchCost cutBranch (mapBranch f b)
+  pub merging : (l : Branch X) (s : List ℕ) (r : Branch X) → mapBranch f (mergeBranches l s r) ≡ mergeBranches (mapBranch f l) s (mapBranch f r)
+  pub placing : (e : X → Grown X) (e′ : Y → Grown Y) (k : List ℕ) → ((x : X) → mapGrown f (e x) ≡ e′ (f x))
+      → (b : Branch X) → mapBranch f (placed e k b) ≡ placed e′ k (mapBranch f b)
+  pub mending : (under : X → Bool) (under′ : Y → Bool) (joins : X → List ℕ → X → Grown X) (joins′ : Y → List ℕ → Y → Grown Y)
+      → ((x : X) → under x ≡ under′ (f x)) → ((l : X) (s : List ℕ) (r : X) → mapGrown f (joins l s r) ≡ joins′ (f l) s (f r))
+      → (b : Branch X) → mapBranch f (mended under joins b) ≡ mended under′ joins′ (mapBranch f b)
+  pub picking : (k : List ℕ) (b : Branch X) → picked k (mapBranch f b .rest) ≡ picked k (b .rest)
+  pub descending : (i : ℕ) (b : Branch X) → f (childAt i (b .first) (b .rest)) ≡ childAt i (mapBranch f b .first) (mapBranch f b .rest)
+  pub splicing : (i : ℕ) (g : Grown X) (b : Branch X) → mapBranch f (splice i g (b .first) (b .rest)) ≡ splice i (mapGrown f g) (mapBranch f b .first) (mapBranch f b .rest)
+  pub splicingTwo : (i : ℕ) (g : Grown X) (b : Branch X) → mapBranch f (spliceTwo i g (b .first) (b .rest)) ≡ spliceTwo i (mapGrown f g) (mapBranch f b .first) (mapBranch f b .rest)
+
+-- so a branch of page numbers is edited as the branch of trees that are read off those pages
+abbrev pub StepsCommuteWithReading : Type 0
+StepsCommuteWithReading = (n : ℕ) (read : ℕ → Tree n) → StepsCommute read

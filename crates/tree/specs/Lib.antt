@@ -3,4 +3,5 @@ pub mod Trees
 pub mod Edits
 pub mod Sound
 pub mod Search
+pub mod Places
 pub mod Laws

@@ -1,7 +1,7 @@
 // The laws of trees. These functions do nothing: each carries the law in its contract.
 ghost use Rattle.tree.specs.Laws.{RisingPairsAreAMap, TreesAreMaps, PutsInsertAndRemovesDelete};
 ghost use Rattle.tree.specs.Laws.{EditsKeepTreesSound, SearchFindsThePair, FirstAboveIsTheNext};
-ghost use Rattle.tree.specs.Laws.{AfterFindsTheNextPair};
+ghost use Rattle.tree.specs.Laws.{AfterFindsTheNextPair, StepsCommuteWithReading};
 
 pub fn rising_pairs_are_a_map() -> u8
     ensures { λ _. ⌜ RisingPairsAreAMap ⌝ }
@@ -41,6 +41,12 @@ pub fn first_above_is_the_next() -> u8
 
 pub fn after_finds_the_next_pair() -> u8
     ensures { λ _. ⌜ AfterFindsTheNextPair ⌝ }
+{
+    0
+}
+
+pub fn steps_commute_with_reading() -> u8
+    ensures { λ _. ⌜ StepsCommuteWithReading ⌝ }
 {
     0
 }
