@@ -149,7 +149,7 @@ unfolding insert total
 insert-cost k v a b [] = omega arith
 insert-cost k v a b (p ∷ ps) = let r = insert-cost k v a b ps in grind arith
 
-pub delete-cost : (k : List ℕ) (ps : List Pair) → total pairCost (delete k ps) ≤ total pairCost ps + largestPair
+pub delete-cost : (k : List ℕ) (ps : List Pair) → total pairCost (delete k ps) ≤ total pairCost ps
 unfolding delete total
 delete-cost k [] = omega arith
 delete-cost k (p ∷ ps) = let r = delete-cost k ps in grind arith
@@ -163,7 +163,7 @@ insert-edits k v a b = record {
 pub delete-edits : (k : List ℕ) → Edits (delete k) k
 delete-edits k = record {
   keeps = λ lo hi ps p q h. (delete-rising k ps (h .0), all-delete _ k ps (h .1), all-delete _ k ps (h .2));
-  costs = delete-cost k;
+  costs = λ ps. let d = delete-cost k ps in omega arith;
 }
 
 -- The root.

@@ -7,3 +7,6 @@ pub mod Kept
 pub mod Searches
 pub mod ByPlace
 pub mod Natural
+pub mod Width
+pub mod Counting
+pub mod Making

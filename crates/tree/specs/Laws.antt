@@ -1,5 +1,5 @@
 -- What holds of trees and their edits.
-use Prim.Native.Nat.{ℕ, _≤_}
+use Prim.Native.Nat.{ℕ, suc, _+_, _*_, _^_, _≤_}
 use mathlib.Core.Path.{_≡_}
 use mathlib.Core.List.{List}
 use mathlib.Core.Bool.{Bool}
@@ -10,10 +10,11 @@ use Rattle.std.specs.declared.option.Option.the-variants.{Some, None}
 use Rattle.cuts.specs.Keys.{Below, AtMost, KeyFits}
 use Rattle.cuts.specs.Nodes.{Pair, Branch}
 use Rattle.tree.specs.Maps.{insert, delete, lookup, firstAbove, Rising}
-use Rattle.tree.specs.Trees.{Tree, BTree, pairsOf, branchCost}
-use Rattle.tree.specs.Edits.{Grown, cutBranch, fit, mergeBranches, placed, mended, put, remove}
+use Rattle.tree.specs.Trees.{Tree, BTree, levels, pairsOf, branchCost, underfull}
+use Rattle.tree.specs.Edits.{Grown, cutBranch, fit, mergeBranches, join, placed, mended, edit, put, remove}
 use Rattle.tree.specs.Sound.{SoundTree}
 use Rattle.tree.specs.Search.{picked, childAt, find, after}
+use Rattle.tree.specs.Counts.{nodesOf, markedStep, made, WideBelow}
 use Rattle.tree.specs.Places.{splice, spliceTwo, mapBranch, mapGrown}
 
 -- a list of pairs whose keys rise is a map, which insertion and deletion change at one key
@@ -71,3 +72,26 @@ pub record StepsCommute {X Y : Type 0} (f : X → Y) : Type 0 where
 -- so a branch of page numbers is edited as the branch of trees that are read off those pages
 abbrev pub StepsCommuteWithReading : Type 0
 StepsCommuteWithReading = (n : ℕ) (read : ℕ → Tree n) → StepsCommute read
+
+-- the marked step is the edit's own step
+abbrev pub MarkedStepsAreTheEdits : Type 0
+MarkedStepsAreTheEdits = (e : List Pair → List Pair) (k : List ℕ) (n : ℕ) (t : Tree (suc n))
+    → fit branchCost cutBranch (mapBranch (λ m. m .node) (markedStep (underfull n) (join n) (edit e k n) k t)) ≡ edit e k (suc n) t
+
+-- at most two new nodes a level, and three at the root
+abbrev pub EditsMakeFewNodes : Type 0
+EditsMakeFewNodes = (b : BTree) → SoundTree b
+    → ((k v : List ℕ) → KeyFits k → length v ≤ 128 → made (insert k v) k b ≤ 2 * levels b + 1)
+    × ((k : List ℕ) → made (delete k) k b ≤ 2 * levels b + 1)
+
+abbrev pub EditsAddFewNodes : Type 0
+EditsAddFewNodes = (b : BTree) → SoundTree b → (k v : List ℕ)
+    → (nodesOf (put b k v) ≤ nodesOf b + levels b + 1) × (nodesOf (remove b k) ≤ nodesOf b + levels b)
+
+-- in a sound tree every branch but the root has three children or more, and a branch root two
+abbrev pub BranchesAreWide : Type 0
+BranchesAreWide = (b : BTree) → SoundTree b → WideBelow (b .height) (b .root)
+
+-- so it is low: with N up to 1,024 pages, of which two are meta pages, it has at most seven levels
+abbrev pub SoundTreesAreLow : Type 0
+SoundTreesAreLow = (b : BTree) → SoundTree b → (3 ^ b .height ≤ nodesOf b) × (nodesOf b ≤ 1022 → levels b ≤ 7)

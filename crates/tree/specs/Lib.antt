@@ -4,4 +4,5 @@ pub mod Edits
 pub mod Sound
 pub mod Search
 pub mod Places
+pub mod Counts
 pub mod Laws

@@ -1,7 +1,9 @@
 // The laws of trees. These functions do nothing: each carries the law in its contract.
 ghost use Rattle.tree.specs.Laws.{RisingPairsAreAMap, TreesAreMaps, PutsInsertAndRemovesDelete};
 ghost use Rattle.tree.specs.Laws.{EditsKeepTreesSound, SearchFindsThePair, FirstAboveIsTheNext};
-ghost use Rattle.tree.specs.Laws.{AfterFindsTheNextPair, StepsCommuteWithReading};
+ghost use Rattle.tree.specs.Laws.{AfterFindsTheNextPair, StepsCommuteWithReading, BranchesAreWide};
+ghost use Rattle.tree.specs.Laws.{SoundTreesAreLow, EditsAddFewNodes, MarkedStepsAreTheEdits};
+ghost use Rattle.tree.specs.Laws.{EditsMakeFewNodes};
 
 pub fn rising_pairs_are_a_map() -> u8
     ensures { λ _. ⌜ RisingPairsAreAMap ⌝ }
@@ -47,6 +49,36 @@ pub fn after_finds_the_next_pair() -> u8
 
 pub fn steps_commute_with_reading() -> u8
     ensures { λ _. ⌜ StepsCommuteWithReading ⌝ }
+{
+    0
+}
+
+pub fn branches_are_wide() -> u8
+    ensures { λ _. ⌜ BranchesAreWide ⌝ }
+{
+    0
+}
+
+pub fn sound_trees_are_low() -> u8
+    ensures { λ _. ⌜ SoundTreesAreLow ⌝ }
+{
+    0
+}
+
+pub fn edits_add_few_nodes() -> u8
+    ensures { λ _. ⌜ EditsAddFewNodes ⌝ }
+{
+    0
+}
+
+pub fn marked_steps_are_the_edits() -> u8
+    ensures { λ _. ⌜ MarkedStepsAreTheEdits ⌝ }
+{
+    0
+}
+
+pub fn edits_make_few_nodes() -> u8
+    ensures { λ _. ⌜ EditsMakeFewNodes ⌝ }
 {
     0
 }
