@@ -5,18 +5,30 @@ use mathlib.Core.List.{List, [], _∷_, _++_}
 use mathlib.Core.Bool.{Bool, true, false, cond, _||_}
 use native.Mathlib.Omega.{arith}
 use lib.ListN.{length, take, drop, getD}
-use Rattle.cuts.specs.Keys.{key<}
+use Rattle.cuts.specs.Keys.{key<, AtMost}
 use Rattle.cuts.specs.Nodes.{Cell, Branch}
 use Rattle.cuts.specs.Cuts.{total}
 use Rattle.tree.specs.Trees.{branch}
 use Rattle.tree.specs.Edits.{Grown, one, two, inPlace, prepend, place, mend, mended}
+use Rattle.tree.specs.Sound.{Bound, before, Under}
 use Rattle.tree.specs.Search.{picked, childAt}
 use Rattle.tree.specs.Places.{separatorAt, splice, spliceTwo, joinAt, repairAt}
+use Rattle.tree.proofs.Strict.{Ranges}
 use Rattle.tree.proofs.Around.{lacks, wants}
 
 pub picked-within : {X : Type 0} (k : List ℕ) (cs : List (Cell X)) → picked k cs ≤ length cs
 picked-within k [] = omega arith
 picked-within k (c ∷ cs) = let r = picked-within k cs in grind arith
+
+-- what holds of the child that k lies under
+pub at-picked : {X : Type 0} (L : List ℕ → Bound → X → Type 0) (P : X → Type 0) (k : List ℕ) → ((lo : List ℕ) (hi : Bound) (x : X) → AtMost lo k → Under k hi → L lo hi x → P x)
+    → (lo : List ℕ) (hi : Bound) (x : X) (cs : List (Cell X)) → AtMost lo k → Under k hi → Ranges L lo hi x cs → P (childAt (picked k cs) x cs)
+at-picked L P k f lo hi x [] p q h = f lo hi x p q (h .0)
+at-picked L P k f lo hi x (c ∷ cs) p q h = by (key< k (c .separator)) refl (λ t. at-picked L P k f (c .separator) hi (c .child) cs t q (h .1 .2, h .1 .3))
+  where
+    by : (t : Bool) → key< k (c .separator) ≡ t → (AtMost (c .separator) k → P (childAt (picked k cs) (c .child) cs)) → P (childAt (cond t 0 (suc (picked k cs))) x (c ∷ cs))
+    by true t r = f lo (before (c .separator)) x p t (h .0)
+    by false t r = r t
 
 -- the edit at the child that k lies under
 pub place-at : {X : Type 0} (e : X → Grown X) (k : List ℕ) (x : X) (cs : List (Cell X)) → place e k x cs ≡ splice (picked k cs) (e (childAt (picked k cs) x cs)) x cs

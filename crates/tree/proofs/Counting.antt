@@ -21,9 +21,9 @@ use Rattle.tree.specs.Sound.{Bound, none, before, Under, top, Light, Full, Sou
 use Rattle.tree.specs.Search.{picked, childAt}
 use Rattle.tree.specs.Places.{splice, spliceTwo}
 use Rattle.tree.specs.Counts.{sumOver, nodes, nodesOf}
-use Rattle.tree.specs.Laws.{EditsAddFewNodes}
+use Rattle.tree.specs.LawsOfSize.{EditsAddFewNodes}
 use Rattle.tree.proofs.Strict.{Ranges, Strict, strict-tree}
-use Rattle.tree.proofs.ByPlace.{place-at, picked-within}
+use Rattle.tree.proofs.ByPlace.{place-at, picked-within, at-picked}
 use Rattle.tree.proofs.Kept.{delete-cost}
 
 -- a sum over what an edit leaves
@@ -95,16 +95,6 @@ fit-nodes n t =
 
 join-nodes : (n : ℕ) (l : Tree n) (s : List ℕ) (r : Tree n) → sumGrown (nodes n) (join n l s r) ≤ nodes n l + nodes n r
 join-nodes n l s r = let f = fit-nodes n (merge n l s r) in let m = merge-nodes n l s r in omega arith
-
--- what holds of the child that k lies under
-pub at-picked : {X : Type 0} (L : List ℕ → Bound → X → Type 0) (P : X → Type 0) (k : List ℕ) → ((lo : List ℕ) (hi : Bound) (x : X) → AtMost lo k → Under k hi → L lo hi x → P x)
-    → (lo : List ℕ) (hi : Bound) (x : X) (cs : List (Cell X)) → AtMost lo k → Under k hi → Ranges L lo hi x cs → P (childAt (picked k cs) x cs)
-at-picked L P k f lo hi x [] p q h = f lo hi x p q (h .0)
-at-picked L P k f lo hi x (c ∷ cs) p q h = by (key< k (c .separator)) refl (λ t. at-picked L P k f (c .separator) hi (c .child) cs t q (h .1 .2, h .1 .3))
-  where
-    by : (t : Bool) → key< k (c .separator) ≡ t → (AtMost (c .separator) k → P (childAt (picked k cs) (c .child) cs)) → P (childAt (cond t 0 (suc (picked k cs))) x (c ∷ cs))
-    by true t r = f lo (before (c .separator)) x p t (h .0)
-    by false t r = r t
 
 -- an edit that adds at most a nodes at a leaf
 edit-nodes : (e : List Pair → List Pair) (k : List ℕ) (a : ℕ) → ((ps : List Pair) → leafCost ps ≤ usable → sumGrown (nodes zero) (fit leafCost cutLeaf (e ps)) ≤ suc a)

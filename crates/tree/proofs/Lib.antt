@@ -6,6 +6,7 @@ pub mod Leaves
 pub mod Kept
 pub mod Searches
 pub mod ByPlace
+pub mod Edited
 pub mod Natural
 pub mod Width
 pub mod Counting

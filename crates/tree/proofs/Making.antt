@@ -16,13 +16,14 @@ use Rattle.tree.specs.Sound.{Bound, none, Under, Light, Full, Forked, SoundTre
 use Rattle.tree.specs.Search.{picked, childAt}
 use Rattle.tree.specs.Places.{separatorAt, splice, spliceTwo, joinAt, repairAt, mapCell, mapBranch, mapGrown}
 use Rattle.tree.specs.Counts.{sumOver, Marked, old, new, mark, markedStep, madeBelow, madeAtRoot, madeInPlaceOf, made}
-use Rattle.tree.specs.Laws.{MarkedStepsAreTheEdits, EditsMakeFewNodes}
+use Rattle.tree.specs.LawsOfSize.{MarkedStepsAreTheEdits, EditsMakeFewNodes}
 use Rattle.tree.proofs.Strict.{Strict, strict-tree}
-use Rattle.tree.proofs.Around.{lacks, wants, Good}
-use Rattle.tree.proofs.ByPlace.{Settled, mend-place, picked-within}
+use Rattle.tree.proofs.Around.{lacks, wants}
+use Rattle.tree.proofs.ByPlace.{Settled, mend-place, picked-within, at-picked}
 use Rattle.tree.proofs.Natural.{mend-map, place-map, picked-map, child-at-map}
-use Rattle.tree.proofs.Counting.{sumGrown, splice-sum, splice-two-sum, at-picked}
-use Rattle.tree.proofs.Kept.{Edits, insert-edits, delete-edits, edit-strict, ranges-light, full-forked, under-no}
+use Rattle.tree.proofs.Counting.{sumGrown, splice-sum, splice-two-sum}
+use Rattle.tree.proofs.Kept.{Edits, insert-edits, delete-edits, ranges-light, full-forked, under-no}
+use Rattle.tree.proofs.Edited.{settled}
 
 -- forgetting the marks
 map-old : {X : Type 0} (cs : List (Cell X)) → map (mapCell (λ (m : Marked X). m .node)) (map (mapCell old) cs) ≡ cs
@@ -110,19 +111,13 @@ module _ {X : Type 0} (under : X → Bool) (j : X → List ℕ → X → Grown X
       (repair-new (b .first) (b .rest) (picked k cs) (e (childAt (picked k cs) x cs .node)) (picked-within k cs) (omega arith))
 
 -- so an edit makes at most two nodes a level
-good-settled : (n : ℕ) (lo : List ℕ) (hi : Bound) (g : Grown (Tree n)) → Good (underfull n) (Light n (Strict n)) lo hi g → Settled (underfull n) g
-good-settled n lo hi (one x) h = tt
-good-settled n lo hi (two l s r) h = (h .5, h .6)
-
 made-few : (e : List Pair → List Pair) (k : List ℕ) → Edits e k → (n : ℕ) (lo : List ℕ) (hi : Bound) (t : Tree n) → AtMost lo k → Under k hi → Forked n t → Light n (Strict n) lo hi t
     → madeBelow e k n t ≤ 2 * n
 unfolding madeBelow
 made-few e k ed zero lo hi t p q f h = omega arith
 made-few e k ed (suc n) lo hi t p q f h =
     let l = ranges-light n (Strict n) lo hi (t .first) (t .rest) (h .1 .0) in
-    let s = at-picked (Full n (Strict n)) (λ x. Settled (underfull n) (edit e k n x)) k
-    (λ lo′ hi′ x p′ q′ z. good-settled n lo′ hi′ _ (edit-strict e k ed n lo′ hi′ x p′ q′ (full-forked n x (under-no n x (z .0))) (z .1)))
-    lo hi (t .first) (t .rest) p q (h .1 .0) in
+    let s = settled e k ed n lo hi t p q h in
     let r = at-picked (Full n (Strict n)) (λ x. madeBelow e k n x ≤ 2 * n) k
     (λ lo′ hi′ x p′ q′ z. made-few e k ed n lo′ hi′ x p′ q′ (full-forked n x (under-no n x (z .0))) (z .1))
     lo hi (t .first) (t .rest) p q (h .1 .0) in

@@ -15,7 +15,7 @@ use Rattle.cuts.proofs.Balance.{two-cells, cells-small}
 use Rattle.tree.specs.Trees.{branch, Tree, BTree}
 use Rattle.tree.specs.Sound.{Bound, none, Full, Forked, SoundTree}
 use Rattle.tree.specs.Counts.{sumOver, nodes, EachChild, Wide, WideBelow}
-use Rattle.tree.specs.Laws.{BranchesAreWide, SoundTreesAreLow}
+use Rattle.tree.specs.LawsOfSize.{BranchesAreWide, SoundTreesAreLow}
 use Rattle.tree.proofs.Strict.{Rises, Strict, strict-tree}
 
 rises-each : {X : Type 0} (S : List ℕ → Bound → X → Type 0) (P : X → Type 0) → ((lo : List ℕ) (hi : Bound) (x : X) → S lo hi x → P x)

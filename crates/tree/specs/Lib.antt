@@ -6,3 +6,4 @@ pub mod Search
 pub mod Places
 pub mod Counts
 pub mod Laws
+pub mod LawsOfSize

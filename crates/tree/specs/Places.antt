@@ -3,10 +3,10 @@
 use Prim.Native.Nat.{ℕ, zero, suc}
 use mathlib.Core.List.{List, [], _∷_, map}
 use mathlib.Core.Bool.{Bool, cond}
-use Rattle.cuts.specs.Nodes.{Cell, Branch}
-use Rattle.tree.specs.Trees.{branch}
-use Rattle.tree.specs.Edits.{Grown, one, two, inPlace, prepend}
-use Rattle.tree.specs.Search.{childAt}
+use Rattle.cuts.specs.Nodes.{Pair, Cell, Branch}
+use Rattle.tree.specs.Trees.{branch, Tree, branchCost, underfull}
+use Rattle.tree.specs.Edits.{Grown, one, two, cutBranch, fit, join, inPlace, prepend, edit}
+use Rattle.tree.specs.Search.{picked, childAt}
 
 -- the separator after child i
 abbrev pub separatorAt : {X : Type 0} → ℕ → List (Cell X) → List ℕ
@@ -35,6 +35,12 @@ joinAt joins (suc i) y x cs = spliceTwo i (joins (childAt i x cs) (separatorAt i
 abbrev pub repairAt : {X : Type 0} → (X → Bool) → (X → List ℕ → X → Grown X) → ℕ → Grown X → X → List (Cell X) → Branch X
 repairAt under joins i (one y) x cs = cond (under y) (joinAt joins i y x cs) (splice i (one y) x cs)
 repairAt under joins i (two l s r) x cs = splice i (two l s r) x cs
+
+-- the edit of a branch
+abbrev pub editByPlace : (List Pair → List Pair) → List ℕ → (n : ℕ) → Tree (suc n) → Grown (Tree (suc n))
+editByPlace e k n t =
+    let i = picked k (t .rest) in
+    fit branchCost cutBranch (repairAt (underfull n) (join n) i (edit e k n (childAt i (t .first) (t .rest))) (t .first) (t .rest))
 
 -- through a function of the children
 abbrev pub mapCell : {X Y : Type 0} → (X → Y) → Cell X → Cell Y

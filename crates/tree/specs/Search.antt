@@ -9,7 +9,7 @@ use Rattle.std.specs.declared.option.Option.the-variants.{Some, None}
 use Rattle.cuts.specs.Keys.{key<}
 use Rattle.cuts.specs.Nodes.{Pair, Cell}
 use Rattle.tree.specs.Maps.{lookup, firstAbove}
-use Rattle.tree.specs.Trees.{Tree}
+use Rattle.tree.specs.Trees.{Tree, BTree}
 
 -- how many separators from the front on are at most k: the number of the child that k lies under
 abbrev pub picked : {X : Type 0} → List ℕ → List (Cell X) → ℕ
@@ -26,6 +26,9 @@ abbrev pub find : (n : ℕ) → Tree n → List ℕ → Option (List ℕ)
 find zero t k = lookup k t
 find (suc n) t k = find n (childAt (picked k (t .rest)) (t .first) (t .rest)) k
 
+abbrev pub get : BTree → List ℕ → Option (List ℕ)
+get b k = find (b .height) (b .root) k
+
 abbrev pub orElse : {X : Type 0} → Option X → Option X → Option X
 orElse None o = o
 orElse (Some x) o = Some x
@@ -36,3 +39,6 @@ after zero t k = firstAbove k t
 after (suc n) t k =
     let i = picked k (t .rest) in
     orElse (after n (childAt i (t .first) (t .rest)) k) (cond (ltb i (length (t .rest))) (after n (childAt (suc i) (t .first) (t .rest)) k) None)
+
+abbrev pub next : BTree → List ℕ → Option Pair
+next b k = after (b .height) (b .root) k

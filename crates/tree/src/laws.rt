@@ -1,9 +1,10 @@
 // The laws of trees. These functions do nothing: each carries the law in its contract.
 ghost use Rattle.tree.specs.Laws.{RisingPairsAreAMap, TreesAreMaps, PutsInsertAndRemovesDelete};
-ghost use Rattle.tree.specs.Laws.{EditsKeepTreesSound, SearchFindsThePair, FirstAboveIsTheNext};
-ghost use Rattle.tree.specs.Laws.{AfterFindsTheNextPair, StepsCommuteWithReading, BranchesAreWide};
-ghost use Rattle.tree.specs.Laws.{SoundTreesAreLow, EditsAddFewNodes, MarkedStepsAreTheEdits};
-ghost use Rattle.tree.specs.Laws.{EditsMakeFewNodes};
+ghost use Rattle.tree.specs.Laws.{EditsKeepTreesSound, SearchFindsThePair, EditsChangeOneKey};
+ghost use Rattle.tree.specs.Laws.{FirstAboveIsTheNext, AfterFindsTheNextPair, EditsGoByPlace};
+ghost use Rattle.tree.specs.Laws.{StepsCommuteWithReading};
+ghost use Rattle.tree.specs.LawsOfSize.{MarkedStepsAreTheEdits, EditsMakeFewNodes, EditsAddFewNodes, BranchesAreWide};
+ghost use Rattle.tree.specs.LawsOfSize.{SoundTreesAreLow};
 
 pub fn rising_pairs_are_a_map() -> u8
     ensures { λ _. ⌜ RisingPairsAreAMap ⌝ }
@@ -35,6 +36,12 @@ pub fn search_finds_the_pair() -> u8
     0
 }
 
+pub fn edits_change_one_key() -> u8
+    ensures { λ _. ⌜ EditsChangeOneKey ⌝ }
+{
+    0
+}
+
 pub fn first_above_is_the_next() -> u8
     ensures { λ _. ⌜ FirstAboveIsTheNext ⌝ }
 {
@@ -47,26 +54,14 @@ pub fn after_finds_the_next_pair() -> u8
     0
 }
 
+pub fn edits_go_by_place() -> u8
+    ensures { λ _. ⌜ EditsGoByPlace ⌝ }
+{
+    0
+}
+
 pub fn steps_commute_with_reading() -> u8
     ensures { λ _. ⌜ StepsCommuteWithReading ⌝ }
-{
-    0
-}
-
-pub fn branches_are_wide() -> u8
-    ensures { λ _. ⌜ BranchesAreWide ⌝ }
-{
-    0
-}
-
-pub fn sound_trees_are_low() -> u8
-    ensures { λ _. ⌜ SoundTreesAreLow ⌝ }
-{
-    0
-}
-
-pub fn edits_add_few_nodes() -> u8
-    ensures { λ _. ⌜ EditsAddFewNodes ⌝ }
 {
     0
 }
@@ -79,6 +74,24 @@ pub fn marked_steps_are_the_edits() -> u8
 
 pub fn edits_make_few_nodes() -> u8
     ensures { λ _. ⌜ EditsMakeFewNodes ⌝ }
+{
+    0
+}
+
+pub fn edits_add_few_nodes() -> u8
+    ensures { λ _. ⌜ EditsAddFewNodes ⌝ }
+{
+    0
+}
+
+pub fn branches_are_wide() -> u8
+    ensures { λ _. ⌜ BranchesAreWide ⌝ }
+{
+    0
+}
+
+pub fn sound_trees_are_low() -> u8
+    ensures { λ _. ⌜ SoundTreesAreLow ⌝ }
 {
     0
 }
