@@ -1,0 +1,13 @@
+pub mod Insertion
+pub mod Strict
+pub mod Flat
+pub mod Around
+pub mod Leaves
+pub mod Kept
+pub mod Searches
+pub mod ByPlace
+pub mod Edited
+pub mod Natural
+pub mod Width
+pub mod Counting
+pub mod Making
