@@ -9,3 +9,6 @@ pub mod Splices
 pub mod Cuts
 pub mod Sealing
 pub mod Sounds
+pub mod Parts
+pub mod Leaves
+pub mod Fits

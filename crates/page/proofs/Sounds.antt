@@ -61,11 +61,11 @@ unfolding pageOf laidOut
 first-byte k l cells = refl
 
 -- the page of a good list whose keys rise
-pub page-sound : (k : Rules) (l q : ℕ) (cells : List (List ℕ)) → Shows (k .kind) (pageOf (k .kind) l cells) l q cells
-    → every (k .good) cells ≡ true → k .leftmost l ≡ true → rising (k .key) cells ≡ true → sound k (pageOf (k .kind) l cells) ≡ true
-page-sound k l q cells s g m r =
+pub page-sound : (k : Rules) (l q : ℕ) (cells : List (List ℕ)) (b : List ℕ) → b ≡ pageOf (k .kind) l cells → Shows (k .kind) b l q cells
+    → every (k .good) cells ≡ true → k .leftmost l ≡ true → rising (k .key) cells ≡ true → sound k b ≡ true
+page-sound k l q cells b p s g m r =
     let e = cells-are s in
     let f = leftmost-is s in
-    sound-from k (pageOf (k .kind) l cells) (page-sealed (k .kind) l cells) (first-byte (k .kind) l cells)
+    sound-from k b (ap isSealed p ∙ page-sealed (k .kind) l cells) (ap (λ x. getD x 0 0) p ∙ first-byte (k .kind) l cells)
     (record { laid = laid-from s; goods = ap (every (k .good)) e ∙ g; left = ap (k .leftmost) f ∙ m })
     (ap (rising (k .key)) e ∙ r)

@@ -6,3 +6,5 @@ pub mod Packed
 pub mod Places
 pub mod Splices
 pub mod Views
+pub mod Shorts
+pub mod Growths

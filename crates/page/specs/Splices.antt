@@ -1,8 +1,9 @@
 -- The list of cells that an edit leaves.
-use Prim.Native.Nat.{ℕ, _+_, _≤_}
+use Prim.Native.Nat.{ℕ, _+_, _<_, _≤_}
 use mathlib.Core.List.{List, _++_}
 use lib.ListN.{length, take, drop}
 use denote.Ref.{now}
+use Rattle.std.specs.Holes.{between}
 use Rattle.std.specs.Options.{mapped}
 use Rattle.std.specs.Vec.{listOf}
 use Rattle.page.specs.Layout.{Laid, cost, cellsOf}
@@ -26,3 +27,10 @@ pub record Spliced (kind : ℕ) (s : Splice) : Type 0 where
 -- what one cell costs
 abbrev pub bodyCost : List ℕ → ℕ
 bodyCost b = 2 + length b
+
+-- a cut at i of a leaf's list: both parts fit a page, and neither is empty
+pub record CutsLeaf (xs : List (List ℕ)) (i : ℕ) : Type 0 where
+  pub some : 1 ≤ i
+  pub within : i < length xs
+  pub left : cost (between 0 i xs) ≤ 496
+  pub right : cost (between i (length xs) xs) ≤ 496

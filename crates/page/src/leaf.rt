@@ -4,6 +4,7 @@ ghost use Rattle.page.specs.Kinds.{leafRules};
 ghost use Rattle.page.specs.Reading.{sound};
 use device::Page;
 
+mod edits;
 mod reads;
 
 // A leaf: its bytes are a page that reading accepts, with its checksum.

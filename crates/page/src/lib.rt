@@ -5,8 +5,10 @@ mod cell;
 mod draft;
 mod edit;
 mod fault;
+mod grown;
 mod leaf;
 mod search;
+mod short;
 mod splice;
 mod test;
 

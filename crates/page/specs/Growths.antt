@@ -1,0 +1,35 @@
+-- What edits of pages leave, as nodes without pages.
+use Prim.Native.Nat.{ℕ, _≤_}
+use mathlib.Core.Path.{_≡_}
+use mathlib.Core.List.{List}
+use lib.ListN.{length}
+use Rattle.std.specs.declared.option.Option.{Option}
+use Rattle.std.specs.declared.option.Option.the-variants.{Some, None}
+use Rattle.cuts.specs.Keys.{KeyFits}
+use Rattle.cuts.specs.Nodes.{Pair, Branch}
+use Rattle.tree.specs.Maps.{insert, delete}
+use Rattle.tree.specs.Trees.{leafCost}
+use Rattle.tree.specs.Edits as tree
+use Rattle.page.specs.Shorts.{held}
+use Rattle.page.specs.Views.{leafPairs, branchNode}
+use Rattle.page.specs.declared.grown.Grown.{Grown}
+use Rattle.page.specs.declared.grown.Grown.the-variants.{One, Two}
+use Rattle.page.specs.declared.leaf.LeafPage.{LeafPage}
+use Rattle.page.specs.declared.branch.BranchPage.{BranchPage}
+
+abbrev pub leafGrown : Grown LeafPage → tree.Grown (List Pair)
+leafGrown (One p) = tree.one (leafPairs p)
+leafGrown (Two l s r) = tree.two (leafPairs l) (held s) (leafPairs r)
+
+abbrev pub branchGrown : Grown BranchPage → tree.Grown (Branch ℕ)
+branchGrown (One p) = tree.one (branchNode p)
+branchGrown (Two l s r) = tree.two (branchNode l) (held s) (branchNode r)
+
+-- a leaf's list, cut if it is too full
+abbrev pub fitted : List Pair → tree.Grown (List Pair)
+fitted ps = tree.fit leafCost tree.cutLeaf ps
+
+-- a put refuses only what is no key and value
+abbrev pub PutsPair : LeafPage → List ℕ → List ℕ → Option (Grown LeafPage) → Type 0
+PutsPair p k v None = KeyFits k × (length v ≤ 128) → ⊥
+PutsPair p k v (Some g) = KeyFits k × (length v ≤ 128) × (leafGrown g ≡ fitted (insert k v (leafPairs p)))
