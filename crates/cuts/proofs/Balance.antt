@@ -10,7 +10,7 @@ use Rattle.std.proofs.shelf.Elements.{all-weaker}
 use Rattle.cuts.specs.Nodes.{Pair, Cell, pairCost, cellCost, PairFits, CellFits}
 use Rattle.cuts.specs.Cuts.{total, fair, middle}
 use Rattle.cuts.specs.Sizes.{usable, quarterOf, largestPair, largestCell}
-use Rattle.cuts.specs.Laws.{LeafPartsFit, BranchPartsFit, LeafCutsFit, BranchCutsFit, OverfullLeavesAreCut, OverfullBranchesAreCut, LeafCutsAreFairest, FilledBranchesHaveTwoCells}
+use Rattle.cuts.specs.Laws.{LeafPartsFit, BranchPartsFit, LeafCutsFit, BranchCutsFit, BranchCutsAreJustPastHalf, OverfullLeavesAreCut, OverfullBranchesAreCut, LeafCutsAreFairest, FilledBranchesHaveTwoCells}
 
 pub total-append : {X : Type 0} (f : X → ℕ) (xs ys : List X) → total f (xs ++ ys) ≡ total f xs + total f ys
 unfolding total
@@ -49,6 +49,17 @@ fairest f a [] zero h = omega arith
 fairest f a [] (suc j) h = omega arith
 fairest f a (x ∷ xs) zero h = let r = fairest f (a + f x) xs 0 (h .1) in grind (arith, tells)
 fairest f a (x ∷ xs) (suc j) h = let r = fairest f (a + f x) xs j (h .1) in let s = total-parts f j xs in grind (arith, tells)
+
+middle-past : {X : Type 0} (f : X → ℕ) (t a : ℕ) (xs : List X) → t < 2 * (a + total f xs) → t < 2 * (a + total f (take (suc (middle f t a xs)) xs))
+unfolding total middle
+middle-past f t a [] h = omega arith
+middle-past f t a (x ∷ xs) h = let r = middle-past f t (a + f x) xs in grind (arith, tells)
+
+middle-first : {X : Type 0} (f : X → ℕ) (t a : ℕ) (xs : List X) (j : ℕ) → j < middle f t a xs → 2 * (a + total f (take (suc j) xs)) ≤ t
+unfolding total middle
+middle-first f t a [] j h = omega arith
+middle-first f t a (x ∷ xs) zero h = grind (arith, tells)
+middle-first f t a (x ∷ xs) (suc j) h = let r = middle-first f t (a + f x) xs j in grind (arith, tells)
 
 -- where the parts fit, for any elements
 module _ {X : Type 0} (f : X → ℕ) (u m : ℕ) (xs : List X) (small : All (λ (x : X). f x ≤ m) xs) where
@@ -90,6 +101,11 @@ leaf-cuts-fit u m costs h p q = leaf-parts (λ c. c) u m costs h p q
 
 pub branch-cuts-fit : BranchCutsFit
 branch-cuts-fit u m costs h n p q = branch-parts (λ c. c) u m costs h n p q
+
+pub branch-cuts-are-just-past-half : BranchCutsAreJustPastHalf
+branch-cuts-are-just-past-half costs n =
+    let p = middle-past (λ c. c) (total (λ c. c) costs) 0 costs (omega arith) in
+    (omega arith, λ j l. omega (arith, middle-first (λ c. c) (total (λ c. c) costs) 0 costs j l))
 
 pub overfull-leaves-are-cut : OverfullLeavesAreCut
 overfull-leaves-are-cut = (overfull-leaf usable (omega arith), overfull-leaf)

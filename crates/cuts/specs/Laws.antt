@@ -41,6 +41,12 @@ BranchCutsFit = (u m : ℕ) (costs : List ℕ) → All (λ c. c ≤ m) costs
     → 0 < total (λ c. c) costs → 2 * m + 2 * quarterOf u ≤ total (λ c. c) costs → total (λ c. c) costs ≤ suc (2 * u)
     → BranchPartsFit (λ c. c) u costs (middle (λ c. c) (total (λ c. c) costs) 0 costs)
 
+-- the cell that a branch gives up is the first at which it and those before it cost more than half
+abbrev pub BranchCutsAreJustPastHalf : Type 0
+BranchCutsAreJustPastHalf = (costs : List ℕ) → 0 < total (λ c. c) costs
+    → (total (λ c. c) costs < 2 * total (λ c. c) (take (suc (middle (λ c. c) (total (λ c. c) costs) 0 costs)) costs))
+    × ((j : ℕ) → j < middle (λ c. c) (total (λ c. c) costs) 0 costs → 2 * total (λ c. c) (take (suc j) costs) ≤ total (λ c. c) costs)
+
 -- A leaf's list that is overfull by at most one cell, as an edit leaves it, or by less than a quarter, as a join
 -- does.
 abbrev pub OverfullLeafIsCut : ℕ → Type 0
