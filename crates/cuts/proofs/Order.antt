@@ -57,7 +57,8 @@ ways a b = by (key< a b) (key< b a) refl refl
     by false false e g = same e g (same-from-most a b g e)
 
 -- the same, for `grind`
-pub key-tells : (a b : List ℕ) → ((key< a b ≡ true) × (key< b a ≡ false)) ⊎ (((key< a b ≡ false) × (key< b a ≡ true)) ⊎ ((key< a b ≡ false) × (key< b a ≡ false) × (a ≡ b)))
+pub key-tells : (a b : List ℕ)
+    → ((key< a b ≡ true) × (key< b a ≡ false)) ⊎ (((key< a b ≡ false) × (key< b a ≡ true)) ⊎ ((key< a b ≡ false) × (key< b a ≡ false) × (a ≡ b)))
 key-tells a b = elim (ways a b) [ less e g ↦ inl (e, g) | more e g ↦ inr (inl (e, g)) | same e g s ↦ inr (inr (e, g, s)) ]
 
 pub most-less : (a b c : List ℕ) → AtMost a b → Below b c → Below a c

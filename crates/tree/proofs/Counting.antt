@@ -32,7 +32,8 @@ sumGrown w (one x) = w x
 sumGrown w (two l s r) = w l + w r
 
 module _ {X : Type 0} (w : X → ℕ) where
-  pub splice-sum : (i : ℕ) (g : Grown X) (x : X) (cs : List (Cell X)) → i ≤ length cs → sumOver w (splice i g x cs) + w (childAt i x cs) ≡ sumGrown w g + sumOver w (branch x cs)
+  pub splice-sum : (i : ℕ) (g : Grown X) (x : X) (cs : List (Cell X)) → i ≤ length cs
+      → sumOver w (splice i g x cs) + w (childAt i x cs) ≡ sumGrown w g + sumOver w (branch x cs)
   unfolding total
   splice-sum zero (one y) x cs l = omega arith
   splice-sum zero (two a s b) x cs l = omega arith
@@ -47,16 +48,19 @@ module _ {X : Type 0} (w : X → ℕ) where
   splice-two-sum zero (two a s b) x (c ∷ cs) l = omega arith
   splice-two-sum (suc i) g x (c ∷ cs) l = let r = splice-two-sum i g (c .child) cs (omega arith) in omega arith
 
-  place-sum : (e : X → Grown X) (k : List ℕ) (d : ℕ) (x : X) (cs : List (Cell X)) → sumGrown w (e (childAt (picked k cs) x cs)) ≤ w (childAt (picked k cs) x cs) + d
+  place-sum : (e : X → Grown X) (k : List ℕ) (d : ℕ) (x : X) (cs : List (Cell X))
+      → sumGrown w (e (childAt (picked k cs) x cs)) ≤ w (childAt (picked k cs) x cs) + d
       → sumOver w (place e k x cs) ≤ sumOver w (branch x cs) + d
   place-sum e k d x cs h = let s = splice-sum (picked k cs) (e (childAt (picked k cs) x cs)) x cs (picked-within k cs) in rw (place-at e k x cs) (omega arith)
 
-  in-place-sum : (g : Grown X) (cs : List (Cell X)) → sumOver w (inPlace g cs) ≡ sumGrown w g + total (λ c. w (c .child)) cs
+  in-place-sum : (g : Grown X) (cs : List (Cell X))
+      → sumOver w (inPlace g cs) ≡ sumGrown w g + total (λ c. w (c .child)) cs
   unfolding total
   in-place-sum (one y) cs = refl
   in-place-sum (two a s b) cs = omega arith
 
-  mend-sum : (under : X → Bool) (j : X → List ℕ → X → Grown X) → ((l : X) (s : List ℕ) (r : X) → sumGrown w (j l s r) ≤ w l + w r)
+  mend-sum : (under : X → Bool) (j : X → List ℕ → X → Grown X)
+      → ((l : X) (s : List ℕ) (r : X) → sumGrown w (j l s r) ≤ w l + w r)
       → (x : X) (cs : List (Cell X)) → sumOver w (mend under j x cs) ≤ sumOver w (branch x cs)
   unfolding mend total
   mend-sum under j h x [] = omega arith
@@ -68,7 +72,8 @@ module _ {X : Type 0} (w : X → ℕ) where
       (λ t. sumOver w (cond t (inPlace (j x (c .separator) (c .child)) cs) (prepend x (c .separator) (mend under j (c .child) cs))) ≤ sumOver w (branch x (c ∷ cs)))
       [ true ↦ omega arith | false ↦ omega arith ]
 
-  give-up-sum : (x : X) (bs cs : List (Cell X)) → sumGrown (λ b. suc (sumOver w b)) (giveUp x bs cs) ≤ suc (suc (sumOver w (branch x (bs ++ cs))))
+  give-up-sum : (x : X) (bs cs : List (Cell X))
+      → sumGrown (λ b. suc (sumOver w b)) (giveUp x bs cs) ≤ suc (suc (sumOver w (branch x (bs ++ cs))))
   unfolding total
   give-up-sum x bs [] = let a = total-append (λ (c : Cell X). w (c .child)) bs [] in omega arith
   give-up-sum x bs (c ∷ cs) = let a = total-append (λ (c : Cell X). w (c .child)) bs (c ∷ cs) in omega arith
@@ -93,11 +98,13 @@ fit-nodes n t =
     let c = cut-nodes n t in
     elim (leb (cost n t) usable) as (λ b. sumGrown (nodes n) (cond b (one t) (cut n t)) ≤ suc (nodes n t)) [ true ↦ omega arith | false ↦ c ]
 
-join-nodes : (n : ℕ) (l : Tree n) (s : List ℕ) (r : Tree n) → sumGrown (nodes n) (join n l s r) ≤ nodes n l + nodes n r
+join-nodes : (n : ℕ) (l : Tree n) (s : List ℕ) (r : Tree n)
+    → sumGrown (nodes n) (join n l s r) ≤ nodes n l + nodes n r
 join-nodes n l s r = let f = fit-nodes n (merge n l s r) in let m = merge-nodes n l s r in omega arith
 
 -- an edit that adds at most a nodes at a leaf
-edit-nodes : (e : List Pair → List Pair) (k : List ℕ) (a : ℕ) → ((ps : List Pair) → leafCost ps ≤ usable → sumGrown (nodes zero) (fit leafCost cutLeaf (e ps)) ≤ suc a)
+edit-nodes : (e : List Pair → List Pair) (k : List ℕ) (a : ℕ)
+    → ((ps : List Pair) → leafCost ps ≤ usable → sumGrown (nodes zero) (fit leafCost cutLeaf (e ps)) ≤ suc a)
     → (n : ℕ) (lo : List ℕ) (hi : Bound) (t : Tree n) → AtMost lo k → Under k hi → Light n (Strict n) lo hi t
     → sumGrown (nodes n) (edit e k n t) ≤ nodes n t + (n + a)
 unfolding edit
@@ -116,7 +123,8 @@ unfolding total
 rooted-nodes zero (one t) = omega arith
 rooted-nodes (suc n) (one t) = by (t .first) (t .rest)
   where
-    by : (x : Tree n) (cs : List (Cell (Tree n))) → nodesOf (giveWay n x cs) ≤ suc (suc (sumOver (nodes n) (branch x cs)))
+    by : (x : Tree n) (cs : List (Cell (Tree n)))
+        → nodesOf (giveWay n x cs) ≤ suc (suc (sumOver (nodes n) (branch x cs)))
     by x [] = omega arith
     by x (c ∷ cs) = omega arith
 rooted-nodes n (two l s r) = omega arith
@@ -124,7 +132,8 @@ rooted-nodes n (two l s r) = omega arith
 put-leaf : (k v : List ℕ) (ps : List Pair) → sumGrown (nodes zero) (fit leafCost cutLeaf (insert k v ps)) ≤ 2
 put-leaf k v ps = fit-nodes zero (insert k v ps)
 
-remove-leaf : (k : List ℕ) (ps : List Pair) → leafCost ps ≤ usable → sumGrown (nodes zero) (fit leafCost cutLeaf (delete k ps)) ≤ 1
+remove-leaf : (k : List ℕ) (ps : List Pair) → leafCost ps ≤ usable
+    → sumGrown (nodes zero) (fit leafCost cutLeaf (delete k ps)) ≤ 1
 unfolding fit
 remove-leaf k ps h = let d = delete-cost k ps in let t : leb (leafCost (delete k ps)) usable ≡ true = grind (arith, tells) in rw t (omega arith)
 

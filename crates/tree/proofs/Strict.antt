@@ -37,7 +37,8 @@ abbrev pub StrictTree : BTree → Type 0
 StrictTree b = Light (b .height) (Strict (b .height)) [] none (b .root) × Forked (b .height) (b .root)
 
 -- a key below the next separator is below all that follow
-under-top : {X : Type 0} (S : List ℕ → Bound → X → Type 0) (s : List ℕ) (hi : Bound) (cs : List (Cell X)) → Under s (top hi cs) → Rest S s hi cs → Under s hi
+under-top : {X : Type 0} (S : List ℕ → Bound → X → Type 0) (s : List ℕ) (hi : Bound) (cs : List (Cell X))
+    → Under s (top hi cs) → Rest S s hi cs → Under s hi
 under-top S s hi [] p h = p
 under-top S s hi (c ∷ cs) p h = under-trans s (c .separator) hi p (under-top S (c .separator) hi cs (h .1) (h .3))
 
@@ -79,7 +80,8 @@ sound-from-strict (suc n) lo hi t h =
     ((f _ _ _ (h .0 .0), rises-rest (Full n (Strict n)) (Full n (Sound n)) f lo hi (t .rest) (h .0 .1)), h .1)
 
 -- a node that is not underfull has a key from its lower bound on
-spans-gap : {X : Type 0} (S : List ℕ → Bound → X → Type 0) (lo s : List ℕ) (x : X) (cs : List (Cell X)) → ((r : List ℕ) → S lo (before r) x → Below lo r)
+spans-gap : {X : Type 0} (S : List ℕ → Bound → X → Type 0) (lo s : List ℕ) (x : X) (cs : List (Cell X))
+    → ((r : List ℕ) → S lo (before r) x → Below lo r)
     → Spans S lo (before s) x cs → Below lo s
 spans-gap S lo s x [] g h = g s (h .0)
 spans-gap S lo s x (c ∷ cs) g h = less-trans lo (c .separator) s (g (c .separator) (h .0)) (under-top S (c .separator) (before s) cs (h .1 .1) (h .1 .3))
