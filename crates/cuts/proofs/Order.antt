@@ -68,4 +68,5 @@ pub less-most : (a b c : List ℕ) → Below a b → AtMost b c → Below a c
 less-most a b c p q = elim (ways b c) [ less e g ↦ less-trans a b c p e | more e g ↦ cc | same e g s ↦ rw (← s) p ]
 
 pub most-trans : (a b c : List ℕ) → AtMost a b → AtMost b c → AtMost a c
-most-trans a b c p q = elim (ways a b) [ less e g ↦ most-from-less a c (less-most a b c e q) | more e g ↦ cc | same e g s ↦ rw s q ]
+most-trans a b c p q =
+    elim (ways a b) [ less e g ↦ most-from-less a c (less-most a b c e q) | more e g ↦ cc | same e g s ↦ rw s q ]

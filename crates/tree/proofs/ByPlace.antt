@@ -1,8 +1,8 @@
 -- The steps at a branch, by the number of the child.
-use Prim.Native.Nat.{ℕ, zero, suc, _+_, _<_, _≤_}
-use mathlib.Core.Path.{_≡_, refl, sym, ap, _∙_}
+use Prim.Native.Nat.{ℕ, zero, suc, _<_, _≤_}
+use mathlib.Core.Path.{_≡_, refl, ap, _∙_}
 use mathlib.Core.List.{List, [], _∷_, _++_}
-use mathlib.Core.Bool.{Bool, true, false, cond, _||_}
+use mathlib.Core.Bool.{Bool, true, false, cond}
 use native.Mathlib.Omega.{arith}
 use lib.ListN.{length, take, drop, getD}
 use Rattle.cuts.specs.Keys.{key<, AtMost}
@@ -14,7 +14,7 @@ use Rattle.tree.specs.Sound.{Bound, before, Under}
 use Rattle.tree.specs.Search.{picked, childAt}
 use Rattle.tree.specs.Places.{separatorAt, splice, spliceTwo, joinAt, repairAt}
 use Rattle.tree.proofs.Strict.{Ranges}
-use Rattle.tree.proofs.Around.{lacks, wants}
+use Rattle.tree.proofs.Around.{wants}
 
 pub picked-within : {X : Type 0} (k : List ℕ) (cs : List (Cell X)) → picked k cs ≤ length cs
 picked-within k [] = omega arith
@@ -26,7 +26,8 @@ pub at-picked : {X : Type 0} (L : List ℕ → Bound → X → Type 0) (P : X �
     → (lo : List ℕ) (hi : Bound) (x : X) (cs : List (Cell X)) → AtMost lo k → Under k hi → Ranges L lo hi x cs
     → P (childAt (picked k cs) x cs)
 at-picked L P k f lo hi x [] p q h = f lo hi x p q (h .0)
-at-picked L P k f lo hi x (c ∷ cs) p q h = by (key< k (c .separator)) refl (λ t. at-picked L P k f (c .separator) hi (c .child) cs t q (h .1 .2, h .1 .3))
+at-picked L P k f lo hi x (c ∷ cs) p q h =
+    by (key< k (c .separator)) refl (λ t. at-picked L P k f (c .separator) hi (c .child) cs t q (h .1 .2, h .1 .3))
   where
     by : (t : Bool) → key< k (c .separator) ≡ t → (AtMost (c .separator) k → P (childAt (picked k cs) (c .child) cs))
         → P (childAt (cond t 0 (suc (picked k cs))) x (c ∷ cs))
@@ -85,7 +86,8 @@ module _ {X : Type 0} (under : X → Bool) (j : X → List ℕ → X → Grown X
   unfolding total
   wants-two zero a b x s cs l p q w = grind arith
   wants-two (suc i) a b x s [] l p q w = let bad : ⊥ = omega arith in absurd bad
-  wants-two (suc i) a b x s (c ∷ cs) l p q w = let r = wants-two i a b (c .child) s cs (omega arith) p q (omega arith) in omega arith
+  wants-two (suc i) a b x s (c ∷ cs) l p q w =
+      let r = wants-two i a b (c .child) s cs (omega arith) p q (omega arith) in omega arith
 
   pub mend-splice : (i : ℕ) (g : Grown X) (x : X) (cs : List (Cell X)) → i ≤ length cs → 0 < length cs
       → Settled under g → wants under x cs ≡ 0
@@ -97,7 +99,8 @@ module _ {X : Type 0} (under : X → Bool) (j : X → List ℕ → X → Grown X
   pub mend-place : (e : X → Grown X) (k : List ℕ) (x : X) (cs : List (Cell X)) → 0 < length cs
       → Settled under (e (childAt (picked k cs) x cs)) → wants under x cs ≡ 0
       → mended under j (place e k x cs) ≡ repairAt under j (picked k cs) (e (childAt (picked k cs) x cs)) x cs
-  mend-place e k x cs n s w = rw (place-at e k x cs) (mend-splice (picked k cs) (e (childAt (picked k cs) x cs)) x cs (picked-within k cs) n s w)
+  mend-place e k x cs n s w =
+      rw (place-at e k x cs) (mend-splice (picked k cs) (e (childAt (picked k cs) x cs)) x cs (picked-within k cs) n s w)
 
 -- the places in the list of cells; d is any cell
 module _ {X : Type 0} (d : Cell X) where

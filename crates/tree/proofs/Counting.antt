@@ -1,6 +1,6 @@
 -- How many nodes an edit adds.
 use Prim.Native.Nat.{ℕ, zero, suc, _+_, _<_, _≤_}
-use mathlib.Core.Path.{_≡_, refl, sym, ap, _∙_}
+use mathlib.Core.Path.{_≡_, refl, ap}
 use mathlib.Core.List.{List, [], _∷_, _++_}
 use mathlib.Core.Bool.{Bool, true, false, cond, _||_}
 use native.Mathlib.Omega.{arith}
@@ -8,21 +8,21 @@ use lib.Dec.{leb}
 use lib.ListN.{length, take, drop}
 use Rattle.std.proofs.shelf.Lists.{take-append-drop}
 use Rattle.std.proofs.shelf.Ways.{tells}
-use Rattle.cuts.specs.Keys.{key<, AtMost}
-use Rattle.cuts.specs.Nodes.{Pair, Cell, Branch, pairCost, cellCost}
+use Rattle.cuts.specs.Keys.{AtMost}
+use Rattle.cuts.specs.Nodes.{Pair, Cell, cellCost}
 use Rattle.cuts.specs.Cuts.{total, middle}
 use Rattle.cuts.specs.Sizes.{usable}
 use Rattle.cuts.proofs.Order.{less-nil}
 use Rattle.cuts.proofs.Balance.{total-append}
 use Rattle.tree.specs.Maps.{insert, delete}
-use Rattle.tree.specs.Trees.{branch, cell, Tree, BTree, levels, leafCost, branchCost, cost, underfull}
-use Rattle.tree.specs.Edits.{Grown, one, two, cut, cutLeaf, giveUp, cutBranch, fit, merge, join, inPlace, prepend, place, placed, mend, mended, edit, giveWay, rooted}
-use Rattle.tree.specs.Sound.{Bound, none, before, Under, top, Light, Full, SoundTree}
+use Rattle.tree.specs.Trees.{branch, cell, Tree, leafCost, cost, underfull}
+use Rattle.tree.specs.Edits.{Grown, one, two, cut, cutLeaf, giveUp, fit, merge, join, inPlace, prepend, place, placed, mend, mended, edit, giveWay, rooted}
+use Rattle.tree.specs.Sound.{Bound, none, Under, Light, Full}
 use Rattle.tree.specs.Search.{picked, childAt}
 use Rattle.tree.specs.Places.{splice, spliceTwo}
 use Rattle.tree.specs.Counts.{sumOver, nodes, nodesOf}
 use Rattle.tree.specs.LawsOfSize.{EditsAddFewNodes}
-use Rattle.tree.proofs.Strict.{Ranges, Strict, strict-tree}
+use Rattle.tree.proofs.Strict.{Strict, strict-tree}
 use Rattle.tree.proofs.ByPlace.{place-at, picked-within, at-picked}
 use Rattle.tree.proofs.Kept.{delete-cost}
 
@@ -51,7 +51,9 @@ module _ {X : Type 0} (w : X → ℕ) where
   place-sum : (e : X → Grown X) (k : List ℕ) (d : ℕ) (x : X) (cs : List (Cell X))
       → sumGrown w (e (childAt (picked k cs) x cs)) ≤ w (childAt (picked k cs) x cs) + d
       → sumOver w (place e k x cs) ≤ sumOver w (branch x cs) + d
-  place-sum e k d x cs h = let s = splice-sum (picked k cs) (e (childAt (picked k cs) x cs)) x cs (picked-within k cs) in rw (place-at e k x cs) (omega arith)
+  place-sum e k d x cs h =
+      let s = splice-sum (picked k cs) (e (childAt (picked k cs) x cs)) x cs (picked-within k cs) in
+      rw (place-at e k x cs) (omega arith)
 
   in-place-sum : (g : Grown X) (cs : List (Cell X))
       → sumOver w (inPlace g cs) ≡ sumGrown w g + total (λ c. w (c .child)) cs
@@ -90,7 +92,9 @@ cut-nodes (suc n) t =
 merge-nodes : (n : ℕ) (l : Tree n) (s : List ℕ) (r : Tree n) → suc (nodes n (merge n l s r)) ≡ nodes n l + nodes n r
 unfolding total
 merge-nodes zero l s r = refl
-merge-nodes (suc n) l s r = let a = total-append (λ (c : Cell (Tree n)). nodes n (c .child)) (l .rest) (cell s (r .first) ∷ r .rest) in omega arith
+merge-nodes (suc n) l s r =
+    let a = total-append (λ (c : Cell (Tree n)). nodes n (c .child)) (l .rest) (cell s (r .first) ∷ r .rest) in
+    omega arith
 
 fit-nodes : (n : ℕ) (t : Tree n) → sumGrown (nodes n) (fit (cost n) (cut n) t) ≤ suc (nodes n t)
 unfolding fit
@@ -135,7 +139,9 @@ put-leaf k v ps = fit-nodes zero (insert k v ps)
 remove-leaf : (k : List ℕ) (ps : List Pair) → leafCost ps ≤ usable
     → sumGrown (nodes zero) (fit leafCost cutLeaf (delete k ps)) ≤ 1
 unfolding fit
-remove-leaf k ps h = let d = delete-cost k ps in let t : leb (leafCost (delete k ps)) usable ≡ true = grind (arith, tells) in rw t (omega arith)
+remove-leaf k ps h =
+    let d = delete-cost k ps in
+    let t : leb (leafCost (delete k ps)) usable ≡ true = grind (arith, tells) in rw t (omega arith)
 
 pub edits-add-few-nodes : EditsAddFewNodes
 edits-add-few-nodes b h k v =

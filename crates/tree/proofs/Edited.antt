@@ -1,14 +1,14 @@
 -- What an edit does, by place and by key.
-use Prim.Native.Nat.{ℕ, suc, _<_, _≤_}
+use Prim.Native.Nat.{ℕ, suc, _<_}
 use mathlib.Core.Path.{_≡_, sym, ap, _∙_}
-use mathlib.Core.List.{List, []}
+use mathlib.Core.List.{List}
 use lib.ListN.{length}
-use Rattle.cuts.specs.Keys.{AtMost, KeyFits}
+use Rattle.cuts.specs.Keys.{AtMost}
 use Rattle.cuts.specs.Nodes.{Pair}
 use Rattle.tree.specs.Maps.{insert, delete, lookup}
-use Rattle.tree.specs.Trees.{Tree, BTree, branchCost, underfull, pairsOf}
+use Rattle.tree.specs.Trees.{Tree, branchCost, underfull, pairsOf}
 use Rattle.tree.specs.Edits.{Grown, one, two, cutBranch, fit, join, edit, put, remove}
-use Rattle.tree.specs.Sound.{Bound, Under, Light, Full, Forked, SoundTree}
+use Rattle.tree.specs.Sound.{Bound, Under, Light, Full}
 use Rattle.tree.specs.Search.{picked, childAt, get}
 use Rattle.tree.specs.Places.{editByPlace}
 use Rattle.tree.specs.Laws.{EditsGoByPlace, EditsChangeOneKey}

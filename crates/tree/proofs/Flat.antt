@@ -12,7 +12,7 @@ use Rattle.cuts.specs.Nodes.{Pair, Cell, Branch}
 use Rattle.cuts.specs.Sizes.{usable}
 use Rattle.cuts.proofs.Order.{less-self, less-most, most-from-less, most-trans}
 use Rattle.tree.specs.Maps.{insert, delete, Rising}
-use Rattle.tree.specs.Trees.{Tree, BTree, cost, underfull, across, pairs, pairsOf}
+use Rattle.tree.specs.Trees.{Tree, cost, underfull, across, pairs, pairsOf}
 use Rattle.tree.specs.Edits.{Grown, one, two, cut, giveUp, fit, merge, join, inPlace, prepend, place, placed, mend, mended, edit, giveWay, rooted}
 use Rattle.tree.specs.Sound.{Bound, none, before, Under, Within}
 use Rattle.tree.specs.Laws.{PutsInsertAndRemovesDelete, TreesAreMaps}
@@ -77,7 +77,8 @@ cut-pairs (suc n) t = give-up-pairs (pairs n) (t .first) _ _ ∙ ap (across (pai
 
 pub fit-pairs : (n : ℕ) (t : Tree n) → grown (pairs n) (fit (cost n) (cut n) t) ≡ pairs n t
 unfolding fit
-fit-pairs n t = elim (leb (cost n t) usable) as (λ b. grown (pairs n) (cond b (one t) (cut n t)) ≡ pairs n t) [ true ↦ refl | false ↦ cut-pairs n t ]
+fit-pairs n t =
+    elim (leb (cost n t) usable) as (λ b. grown (pairs n) (cond b (one t) (cut n t)) ≡ pairs n t) [ true ↦ refl | false ↦ cut-pairs n t ]
 
 pub join-pairs : (n : ℕ) (l : Tree n) (s : List ℕ) (r : Tree n)
     → grown (pairs n) (join n l s r) ≡ pairs n l ++ pairs n r
@@ -102,13 +103,16 @@ module _ {X : Type 0} (S : List ℕ → Bound → X → Type 0) (f : X → List 
       → (lo : List ℕ) (hi : Bound) (x : X) (cs : List (Cell X)) → Ranges S lo hi x cs
       → across f (place g k x cs .first) (place g k x cs .rest) ≡ e (across f x cs)
   unfolding place
-  place-pairs e k loc g ge lo hi x [] h = in-place-pairs f (g x) [] ∙ (append-nil _ ∙ (ge lo hi x (h .0) ∙ ap e (sym (append-nil (f x)))))
-  place-pairs e k loc g ge lo hi x (c ∷ cs) h = by (key< k (c .separator)) refl (place-pairs e k loc g ge (c .separator) hi (c .child) cs (h .1 .2, h .1 .3))
+  place-pairs e k loc g ge lo hi x [] h =
+      in-place-pairs f (g x) [] ∙ (append-nil _ ∙ (ge lo hi x (h .0) ∙ ap e (sym (append-nil (f x)))))
+  place-pairs e k loc g ge lo hi x (c ∷ cs) h =
+      by (key< k (c .separator)) refl (place-pairs e k loc g ge (c .separator) hi (c .child) cs (h .1 .2, h .1 .3))
     where
       by : (t : Bool) → key< k (c .separator) ≡ t
           → across f (place g k (c .child) cs .first) (place g k (c .child) cs .rest) ≡ e (across f (c .child) cs)
           → let b = cond t (inPlace (g x) (c ∷ cs)) (prepend x (c .separator) (place g k (c .child) cs)) in across f (b .first) (b .rest) ≡ e (across f x (c ∷ cs))
-      by true t r = in-place-pairs f (g x) (c ∷ cs) ∙ (ap (λ (l : List Pair). l ++ across f (c .child) cs) (ge lo (before (c .separator)) x (h .0))
+      by true t r =
+          in-place-pairs f (g x) (c ∷ cs) ∙ (ap (λ (l : List Pair). l ++ across f (c .child) cs) (ge lo (before (c .separator)) x (h .0))
           ∙ sym (loc .left (f x) (across f (c .child) cs) (all-weaker _ _ (λ q b. less-most k (c .separator) (q .key) t (b .0)) _ (ranges-within (c .separator) hi (c .child) cs (h .1 .2, h .1 .3)))))
       by false t r = ap (λ (l : List Pair). f x ++ l) r
           ∙ sym (loc .right (f x) (across f (c .child) cs) (all-weaker _ _ (λ q b. less-most (q .key) (c .separator) k (b .1) t) _ (in′ lo (before (c .separator)) x (h .0))))

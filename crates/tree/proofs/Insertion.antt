@@ -1,13 +1,12 @@
 -- Insertion into a list of pairs, and deletion from it.
 use Prim.Native.Nat.{ℕ}
-use mathlib.Core.Path.{_≡_, refl, sym, _∙_}
+use mathlib.Core.Path.{_≡_, refl, _∙_}
 use mathlib.Core.List.{List, [], _∷_, _++_}
-use mathlib.Core.Bool.{true, false}
 use native.Mathlib.Omega.{arith}
 use Rattle.std.specs.shelf.Lists.{All}
 use Rattle.std.proofs.shelf.Elements.{all-weaker}
 use Rattle.std.specs.declared.option.Option.the-variants.{Some, None}
-use Rattle.cuts.specs.Keys.{key<, Below}
+use Rattle.cuts.specs.Keys.{Below}
 use Rattle.cuts.specs.Nodes.{Pair}
 use Rattle.cuts.proofs.Order.{less-self, less-trans, ways, less, more, same, key-tells}
 use Rattle.tree.specs.Maps.{pair, compared, insert, delete, lookup, Rising}

@@ -6,18 +6,17 @@ use mathlib.Core.Bool.{Bool, true, false, cond}
 use native.Mathlib.Omega.{arith}
 use lib.ListN.{length, take, drop}
 use lib.Dec.{leb}
-use Rattle.std.specs.shelf.Lists.{All}
 use Rattle.std.proofs.shelf.Lists.{take-append-drop, length-drop}
 use Rattle.std.proofs.shelf.Elements.{all-append}
 use Rattle.std.proofs.shelf.Ways.{tells}
 use Rattle.cuts.specs.Keys.{Below, AtMost, KeyFits}
 use Rattle.cuts.specs.Nodes.{Pair, Cell, pairCost, cellCost}
 use Rattle.cuts.specs.Cuts.{total, fair, middle}
-use Rattle.cuts.specs.Sizes.{usable, quarter, largestPair, largestCell}
+use Rattle.cuts.specs.Sizes.{usable, quarter, largestPair}
 use Rattle.cuts.proofs.Order.{less-nil}
 use Rattle.cuts.proofs.Balance.{total-append, overfull-leaf, overfull-branch}
 use Rattle.tree.specs.Maps.{insert, delete}
-use Rattle.tree.specs.Trees.{cell, Tree, BTree, cost, underfull}
+use Rattle.tree.specs.Trees.{cell, Tree, cost, underfull}
 use Rattle.tree.specs.Edits.{Grown, one, two, cut, giveUp, fit, merge, join, place, mended, edit, giveWay, rooted}
 use Rattle.tree.specs.Sound.{Bound, none, before, Under, Light, Full, Forked, SoundTree}
 use Rattle.tree.specs.Laws.{EditsKeepTreesSound}
@@ -95,7 +94,8 @@ fit-strict n lo hi t h q = by (leb (cost n t) usable) refl
     from : (g : Grown (Tree n)) → Cut n lo hi g
         → Good (underfull n) (Light n (Strict n)) lo hi g × (quarter ≤ cost n t → lacking (underfull n) g ≡ 0)
     from (one x) c = absurd c
-    from (two l s r) c = ((c .0, c .1, c .2, c .3 .1, c .4 .1, (let f = c .3 .0 in grind (arith, tells)), (let f = c .4 .0 in grind (arith, tells))), λ _. refl)
+    from (two l s r) c =
+        ((c .0, c .1, c .2, c .3 .1, c .4 .1, (let f = c .3 .0 in grind (arith, tells)), (let f = c .4 .0 in grind (arith, tells))), λ _. refl)
 
     by : (b : Bool) → leb (cost n t) usable ≡ b
         → Good (underfull n) (Light n (Strict n)) lo hi (cond b (one t) (cut n t)) × (quarter ≤ cost n t → lacking (underfull n) (cond b (one t) (cut n t)) ≡ 0)
@@ -108,7 +108,9 @@ pub join-strict : (n : ℕ) (lo s : List ℕ) (hi : Bound) (l r : Tree n) → Be
     → Good (underfull n) (Light n (Strict n)) lo hi (join n l s r) × (lacking (underfull n) (join n l s r) ≡ 0)
 join-strict n lo s hi l r p q f h k w =
     let c = merge-cost n s l r in
-    let m : (quarter ≤ cost n l + cost n r) × (cost n l + cost n r ≤ 619) = let a = h .0 in let b = k .0 in grind (arith, tells) in
+    let a = h .0 in
+    let b = k .0 in
+    let m : (quarter ≤ cost n l + cost n r) × (cost n l + cost n r < usable + quarter) = grind (arith, tells) in
     let g = fit-strict n lo hi (merge n l s r) (merge-strict n lo s hi l r p q f (h .1) (k .1)) (omega arith) in
     (g .0, g .1 (omega arith))
 
@@ -118,17 +120,21 @@ module _ (n : ℕ) (S : List ℕ → Bound → Tree n → Type 0) where
       → Rises (Light n S) lo hi cs × (total (λ c. lacks (underfull n) (c .child)) cs ≡ 0)
   unfolding total
   rises-light lo hi [] h = (tt, refl)
-  rises-light lo hi (c ∷ cs) h = let r = rises-light (c .separator) hi cs (h .3) in let f = h .2 .0 in ((h .0, h .1, h .2 .1, r .0), grind (arith, tells))
+  rises-light lo hi (c ∷ cs) h =
+      let r = rises-light (c .separator) hi cs (h .3) in
+      let f = h .2 .0 in ((h .0, h .1, h .2 .1, r .0), grind (arith, tells))
 
   pub ranges-light : (lo : List ℕ) (hi : Bound) (x : Tree n) (cs : List (Cell (Tree n)))
       → Ranges (Full n S) lo hi x cs → Ranges (Light n S) lo hi x cs × (wants (underfull n) x cs ≡ 0)
-  ranges-light lo hi x cs h = let r = rises-light lo hi cs (h .1) in let f = h .0 .0 in ((h .0 .1, r .0), grind (arith, tells))
+  ranges-light lo hi x cs h =
+      let r = rises-light lo hi cs (h .1) in let f = h .0 .0 in ((h .0 .1, r .0), grind (arith, tells))
 
   rises-full : (lo : List ℕ) (hi : Bound) (cs : List (Cell (Tree n))) → Rises (Light n S) lo hi cs
       → total (λ c. lacks (underfull n) (c .child)) cs ≤ 0 → Rises (Full n S) lo hi cs
   unfolding total
   rises-full lo hi [] h w = tt
-  rises-full lo hi (c ∷ cs) h w = let r = rises-full (c .separator) hi cs (h .3) (omega arith) in (h .0, h .1, (grind (arith, tells), h .2), r)
+  rises-full lo hi (c ∷ cs) h w =
+      let r = rises-full (c .separator) hi cs (h .3) (omega arith) in (h .0, h .1, (grind (arith, tells), h .2), r)
 
   pub ranges-full : (lo : List ℕ) (hi : Bound) (x : Tree n) (cs : List (Cell (Tree n)))
       → Ranges (Light n S) lo hi x cs → wants (underfull n) x cs ≤ 0 → Ranges (Full n S) lo hi x cs
@@ -149,7 +155,8 @@ pub edit-strict : (e : List Pair → List Pair) (k : List ℕ) → Edits e k
     → Light n (Strict n) lo hi t
     → Good (underfull n) (Light n (Strict n)) lo hi (edit e k n t)
 unfolding edit
-edit-strict e k ed zero lo hi t p q f h = let d = ed .costs t in fit-strict zero lo hi (e t) (ed .keeps lo hi t p q (h .1)) (let c = h .0 in omega arith) .0
+edit-strict e k ed zero lo hi t p q f h =
+    let d = ed .costs t in fit-strict zero lo hi (e t) (ed .keeps lo hi t p q (h .1)) (let c = h .0 in omega arith) .0
 edit-strict e k ed (suc n) lo hi t p q f h =
     let l = ranges-light n (Strict n) lo hi (t .first) (t .rest) (h .1 .0) in
     let a = place-kept (underfull n) (Light n (Strict n)) k (edit e k n) (λ lo′ hi′ x p′ q′ u s. edit-strict e k ed n lo′ hi′ x p′ q′ (full-forked n x u) s) lo hi (t .first) (t .rest) p q (l .0) (h .1 .1) (l .1) in
@@ -172,7 +179,8 @@ delete-cost k (p ∷ ps) = let r = delete-cost k ps in grind arith
 
 pub insert-edits : (k v : List ℕ) → KeyFits k → length v ≤ 128 → Edits (insert k v) k
 insert-edits k v a b = record {
-  keeps = λ lo hi ps p q h. (insert-rising k v ps (h .0), all-insert _ k v ps (p, q) (h .1), all-insert _ k v ps (a, b) (h .2));
+  keeps =
+      λ lo hi ps p q h. (insert-rising k v ps (h .0), all-insert _ k v ps (p, q) (h .1), all-insert _ k v ps (a, b) (h .2));
   costs = insert-cost k v (a .1) b;
 }
 

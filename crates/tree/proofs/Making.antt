@@ -10,11 +10,11 @@ use Rattle.cuts.specs.Nodes.{Pair, Cell, Branch}
 use Rattle.cuts.specs.Cuts.{total}
 use Rattle.cuts.proofs.Order.{less-nil}
 use Rattle.tree.specs.Maps.{insert, delete}
-use Rattle.tree.specs.Trees.{branch, Tree, BTree, branchCost, underfull}
+use Rattle.tree.specs.Trees.{Tree, branchCost, underfull}
 use Rattle.tree.specs.Edits.{Grown, one, two, cutBranch, fit, place, placed, mended, join, edit}
-use Rattle.tree.specs.Sound.{Bound, none, Under, Light, Full, Forked, SoundTree}
+use Rattle.tree.specs.Sound.{Bound, none, Under, Light, Full, Forked}
 use Rattle.tree.specs.Search.{picked, childAt}
-use Rattle.tree.specs.Places.{separatorAt, splice, spliceTwo, joinAt, repairAt, mapCell, mapBranch, mapGrown}
+use Rattle.tree.specs.Places.{separatorAt, splice, joinAt, repairAt, mapCell, mapBranch, mapGrown}
 use Rattle.tree.specs.Counts.{sumOver, Marked, old, new, mark, markedStep, madeBelow, madeAtRoot, madeInPlaceOf, made}
 use Rattle.tree.specs.LawsOfSize.{MarkedStepsAreTheEdits, EditsMakeFewNodes}
 use Rattle.tree.proofs.Strict.{Strict, strict-tree}

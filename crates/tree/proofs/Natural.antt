@@ -2,16 +2,16 @@
 use Prim.Native.Nat.{ℕ, zero, suc, _+_}
 use mathlib.Core.Path.{_≡_, refl, sym, ap, _∙_}
 use mathlib.Core.List.{List, [], _∷_, _++_, map}
-use mathlib.Core.Bool.{Bool, true, false, cond, _||_}
+use mathlib.Core.Bool.{Bool, true, false, cond}
 use native.Mathlib.Omega.{arith}
-use lib.Dec.{ltb, leb}
-use lib.ListN.{length, take, drop}
+use lib.Dec.{leb}
+use lib.ListN.{take, drop}
 use Rattle.cuts.specs.Keys.{key<}
 use Rattle.cuts.specs.Nodes.{Cell, Branch, cellCost}
 use Rattle.cuts.specs.Cuts.{total, middle}
 use Rattle.cuts.specs.Sizes.{usable}
-use Rattle.tree.specs.Trees.{Tree, branchCost}
-use Rattle.tree.specs.Edits.{Grown, one, two, giveUp, cutBranch, fit, mergeBranches, inPlace, prepend, place, placed, mend, mended}
+use Rattle.tree.specs.Trees.{branchCost}
+use Rattle.tree.specs.Edits.{Grown, one, two, giveUp, cutBranch, fit, mergeBranches, inPlace, prepend, place, mend}
 use Rattle.tree.specs.Search.{picked, childAt}
 use Rattle.tree.specs.Places.{separatorAt, splice, spliceTwo, mapCell, mapBranch, mapGrown}
 use Rattle.tree.specs.Laws.{StepsCommute, StepsCommuteWithReading}
@@ -72,7 +72,8 @@ module _ {X Y : Type 0} (f : X → Y) where
   pub fit-map : (b : Branch X)
       → mapGrown (mapBranch f) (fit branchCost cutBranch b) ≡ fit branchCost cutBranch (mapBranch f b)
   unfolding fit
-  fit-map b = by (leb (branchCost b) usable) ∙ ap (λ n. cond (leb n usable) (one (mapBranch f b)) (cutBranch (mapBranch f b))) (sym (total-map (b .rest)))
+  fit-map b =
+      by (leb (branchCost b) usable) ∙ ap (λ n. cond (leb n usable) (one (mapBranch f b)) (cutBranch (mapBranch f b))) (sym (total-map (b .rest)))
     where
       by : (t : Bool)
           → mapGrown (mapBranch f) (cond t (one b) (cutBranch b)) ≡ cond t (one (mapBranch f b)) (cutBranch (mapBranch f b))

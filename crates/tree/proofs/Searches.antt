@@ -1,5 +1,5 @@
 -- Searches down a tree find what the list of its pairs has.
-use Prim.Native.Nat.{ℕ, zero, suc, _+_, _<_, _≤_}
+use Prim.Native.Nat.{ℕ, zero, suc, _<_}
 use mathlib.Core.Path.{_≡_, refl, sym, ap, _∙_}
 use mathlib.Core.List.{List, [], _∷_, _++_}
 use mathlib.Core.Bool.{Bool, true, false, cond}
@@ -15,9 +15,9 @@ use Rattle.std.specs.declared.option.Option.the-variants.{Some, None}
 use Rattle.cuts.specs.Keys.{key<, Below, AtMost}
 use Rattle.cuts.specs.Nodes.{Pair, Cell}
 use Rattle.cuts.specs.Cuts.{total}
-use Rattle.cuts.proofs.Order.{less-self, less-trans, less-most, most-less, most-from-less, key-tells}
-use Rattle.tree.specs.Maps.{lookup, firstAbove, Rising}
-use Rattle.tree.specs.Trees.{Tree, BTree, across, pairs}
+use Rattle.cuts.proofs.Order.{less-self, less-most, most-less, most-from-less, key-tells}
+use Rattle.tree.specs.Maps.{lookup, firstAbove}
+use Rattle.tree.specs.Trees.{Tree, across, pairs}
 use Rattle.tree.specs.Sound.{Bound, none, before, top, Full}
 use Rattle.tree.specs.Search.{picked, childAt, find, orElse, after}
 use Rattle.tree.specs.Laws.{Next, SearchFindsThePair, AfterFindsTheNextPair, FirstAboveIsTheNext}
@@ -43,16 +43,18 @@ module _ (n : ℕ) (k : List ℕ) where
       → ((lo′ : List ℕ) (hi′ : Bound) (y : Tree n) → Ordered n lo′ hi′ y → find n y k ≡ lookup k (pairs n y))
       → find n (childAt (picked k cs) x cs) k ≡ lookup k (across (pairs n) x cs)
   find-along lo hi x [] h f = f lo hi x (h .0) ∙ ap (lookup k) (sym (append-nil (pairs n x)))
-  find-along lo hi x (c ∷ cs) h f = by (key< k (c .separator)) refl (find-along (c .separator) hi (c .child) cs (h .1 .2, h .1 .3) f)
+  find-along lo hi x (c ∷ cs) h f =
+      by (key< k (c .separator)) refl (find-along (c .separator) hi (c .child) cs (h .1 .2, h .1 .3) f)
     where
       by : (t : Bool) → key< k (c .separator) ≡ t
           → find n (childAt (picked k cs) (c .child) cs) k ≡ lookup k (across (pairs n) (c .child) cs)
           → find n (childAt (cond t 0 (suc (picked k cs))) x (c ∷ cs)) k ≡ lookup k (across (pairs n) x (c ∷ cs))
       by true t r = f lo (before (c .separator)) x (h .0)
           ∙ sym (lookup-left k (pairs n x) _ (all-weaker _ _ (λ q b. less-most k (c .separator) (q .key) t (b .0)) _ (ranges-within (Ordered n) (pairs n) (within n) (c .separator) hi (c .child) cs (h .1 .2, h .1 .3))))
-      by false t r = r ∙ sym (lookup-right k (pairs n x) _ (all-weaker _ _ (λ q b. less-most (q .key) (c .separator) k (b .1) t) _ (within n lo (before (c .separator)) x (h .0))))
+      by false t r =
+          r ∙ sym (lookup-right k (pairs n x) _ (all-weaker _ _ (λ q b. less-most (q .key) (c .separator) k (b .1) t) _ (within n lo (before (c .separator)) x (h .0))))
 
-find-pairs : (n : ℕ) (k lo : List ℕ) (hi : Bound) (t : Tree n) → Ordered n lo hi t → find n t k ≡ lookup k (pairs n t)
+pub find-pairs : (n : ℕ) (k lo : List ℕ) (hi : Bound) (t : Tree n) → Ordered n lo hi t → find n t k ≡ lookup k (pairs n t)
 find-pairs zero k lo hi t h = refl
 find-pairs (suc n) k lo hi t h = find-along n k lo hi (t .first) (t .rest) h (find-pairs n k)
 
@@ -67,7 +69,8 @@ or-none (Some x) = refl
 above-append : (k : List ℕ) (xs ys : List Pair) → firstAbove k (xs ++ ys) ≡ orElse (firstAbove k xs) (firstAbove k ys)
 unfolding firstAbove
 above-append k [] ys = refl
-above-append k (x ∷ xs) ys = elim (key< k (x .key)) as (λ t. cond t (Some x) (firstAbove k (xs ++ ys)) ≡ orElse (cond t (Some x) (firstAbove k xs)) (firstAbove k ys)) [ true ↦ refl | false ↦ above-append k xs ys ]
+above-append k (x ∷ xs) ys =
+    elim (key< k (x .key)) as (λ t. cond t (Some x) (firstAbove k (xs ++ ys)) ≡ orElse (cond t (Some x) (firstAbove k xs)) (firstAbove k ys)) [ true ↦ refl | false ↦ above-append k xs ys ]
 
 above-none : (k : List ℕ) (xs : List Pair) → All (λ (q : Pair). AtMost (q .key) k) xs → firstAbove k xs ≡ None
 unfolding firstAbove
@@ -82,7 +85,7 @@ above-some k [] o l h = let bad : ⊥ = omega arith in absurd bad
 above-some k (x ∷ xs) o l h = rw (h .0) refl
 
 -- a node that is not underfull has a pair
-some-pair : (n : ℕ) (lo : List ℕ) (hi : Bound) (t : Tree n) → Full n (Strict n) lo hi t → 0 < length (pairs n t)
+pub some-pair : (n : ℕ) (lo : List ℕ) (hi : Bound) (t : Tree n) → Full n (Strict n) lo hi t → 0 < length (pairs n t)
 unfolding total
 some-pair zero lo hi [] h = omega arith
 some-pair zero lo hi (p ∷ ps) h = omega arith
@@ -100,7 +103,8 @@ module _ (n : ℕ) (k : List ℕ) where
       → ((lo′ : List ℕ) (hi′ : Bound) (y : Tree n) → Full n (Strict n) lo′ hi′ y → after n y k ≡ firstAbove k (pairs n y))
       → along x cs (picked k cs) ≡ firstAbove k (across (pairs n) x cs)
   after-along lo hi x [] h f = or-none _ ∙ (f lo hi x (h .0) ∙ ap (firstAbove k) (sym (append-nil (pairs n x))))
-  after-along lo hi x (c ∷ cs) h f = by (key< k (c .separator)) refl (after-along (c .separator) hi (c .child) cs (h .1 .2, h .1 .3) f)
+  after-along lo hi x (c ∷ cs) h f =
+      by (key< k (c .separator)) refl (after-along (c .separator) hi (c .child) cs (h .1 .2, h .1 .3) f)
     where
       by : (t : Bool) → key< k (c .separator) ≡ t
           → along (c .child) cs (picked k cs) ≡ firstAbove k (across (pairs n) (c .child) cs)
@@ -123,10 +127,11 @@ module _ (n : ℕ) (k : List ℕ) where
           let q = above-none k (pairs n x) (all-weaker _ _ (λ y e. most-from-less (y .key) k (less-most (y .key) (c .separator) k (e .1) t)) _ w) in
           rw z (r ∙ sym (p ∙ ap (λ o. orElse o (firstAbove k (across (pairs n) (c .child) cs))) q))
 
-after-pairs : (n : ℕ) (k lo : List ℕ) (hi : Bound) (t : Tree n) → Strict n lo hi t
+pub after-pairs : (n : ℕ) (k lo : List ℕ) (hi : Bound) (t : Tree n) → Strict n lo hi t
     → after n t k ≡ firstAbove k (pairs n t)
 after-pairs zero k lo hi t h = refl
-after-pairs (suc n) k lo hi t h = after-along n k lo hi (t .first) (t .rest) (h .0) (λ lo′ hi′ y s. after-pairs n k lo′ hi′ y (s .1 .1))
+after-pairs (suc n) k lo hi t h =
+    after-along n k lo hi (t .first) (t .rest) (h .0) (λ lo′ hi′ y s. after-pairs n k lo′ hi′ y (s .1 .1))
 
 pub after-finds-the-next-pair : AfterFindsTheNextPair
 after-finds-the-next-pair b h k = after-pairs (b .height) k [] none (b .root) (strict-tree b h .0 .1)

@@ -1,8 +1,7 @@
 -- Branches of a sound tree are wide, and so it is low.
-use Prim.Native.Nat.{ℕ, zero, suc, _+_, _*_, _^_, _<_, _≤_}
-use mathlib.Core.Path.{_≡_, refl}
+use Prim.Native.Nat.{ℕ, zero, suc, _+_, _*_, _^_, _≤_}
 use mathlib.Core.List.{List, [], _∷_}
-use mathlib.Core.Logic.{_⊎_, inl, inr}
+use mathlib.Core.Logic.{inl, inr}
 use native.Mathlib.Omega.{arith}
 use native.Mathlib.Nat.{pow-suc, pow-le-pow-right}
 use lib.ListN.{length}
@@ -12,8 +11,8 @@ use Rattle.cuts.specs.Nodes.{Cell, cellCost}
 use Rattle.cuts.specs.Cuts.{total}
 use Rattle.cuts.specs.Sizes.{quarter, largestCell}
 use Rattle.cuts.proofs.Balance.{two-cells, cells-small}
-use Rattle.tree.specs.Trees.{branch, Tree, BTree}
-use Rattle.tree.specs.Sound.{Bound, none, Full, Forked, SoundTree}
+use Rattle.tree.specs.Trees.{branch, Tree}
+use Rattle.tree.specs.Sound.{Bound, none, Full, Forked}
 use Rattle.tree.specs.Counts.{sumOver, nodes, EachChild, Wide, WideBelow}
 use Rattle.tree.specs.LawsOfSize.{BranchesAreWide, SoundTreesAreLow}
 use Rattle.tree.proofs.Strict.{Rises, Strict, strict-tree}
@@ -35,7 +34,8 @@ branches-are-wide b h = by (b .height) (b .root) (strict-tree b h .0 .1) (h .1)
   where
     by : (n : ℕ) (t : Tree n) → Strict n [] none t → Forked n t → WideBelow n t
     by zero t s f = tt
-    by (suc n) t s f = (omega arith, (wide n _ _ _ (s .0 .0), rises-each (Full n (Strict n)) (Wide n) (wide n) [] none (t .rest) (s .0 .1)))
+    by (suc n) t s f =
+        (omega arith, (wide n _ _ _ (s .0 .0), rises-each (Full n (Strict n)) (Wide n) (wide n) [] none (t .rest) (s .0 .1)))
 
 -- how many nodes that makes
 three-nodes : (n : ℕ) (x : Tree n) (cs : List (Cell (Tree n)))

@@ -6,7 +6,6 @@ use lib.ListN.{length}
 use Rattle.std.specs.shelf.Lists.{All}
 use Rattle.cuts.specs.Nodes.{Pair, Cell, Branch}
 use Rattle.cuts.specs.Cuts.{total}
-use Rattle.tree.specs.Maps.{insert, delete}
 use Rattle.tree.specs.Trees.{Tree, BTree, underfull}
 use Rattle.tree.specs.Edits.{Grown, one, two, placed, mended, join, edit}
 use Rattle.tree.specs.Search.{picked, childAt}
