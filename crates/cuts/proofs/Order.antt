@@ -57,7 +57,8 @@ ways a b = by (key< a b) (key< b a) refl refl
     by false false e g = same e g (same-from-most a b g e)
 
 -- the same, for `grind`
-pub key-tells : (a b : List ℕ) → ((key< a b ≡ true) × (key< b a ≡ false)) ⊎ (((key< a b ≡ false) × (key< b a ≡ true)) ⊎ ((key< a b ≡ false) × (key< b a ≡ false) × (a ≡ b)))
+pub key-tells : (a b : List ℕ)
+    → ((key< a b ≡ true) × (key< b a ≡ false)) ⊎ (((key< a b ≡ false) × (key< b a ≡ true)) ⊎ ((key< a b ≡ false) × (key< b a ≡ false) × (a ≡ b)))
 key-tells a b = elim (ways a b) [ less e g ↦ inl (e, g) | more e g ↦ inr (inl (e, g)) | same e g s ↦ inr (inr (e, g, s)) ]
 
 pub most-less : (a b c : List ℕ) → AtMost a b → Below b c → Below a c
@@ -67,4 +68,5 @@ pub less-most : (a b c : List ℕ) → Below a b → AtMost b c → Below a c
 less-most a b c p q = elim (ways b c) [ less e g ↦ less-trans a b c p e | more e g ↦ cc | same e g s ↦ rw (← s) p ]
 
 pub most-trans : (a b c : List ℕ) → AtMost a b → AtMost b c → AtMost a c
-most-trans a b c p q = elim (ways a b) [ less e g ↦ most-from-less a c (less-most a b c e q) | more e g ↦ cc | same e g s ↦ rw s q ]
+most-trans a b c p q =
+    elim (ways a b) [ less e g ↦ most-from-less a c (less-most a b c e q) | more e g ↦ cc | same e g s ↦ rw s q ]

@@ -31,25 +31,42 @@ abbrev pub BranchPartsFit : {X : Type 0} → (X → ℕ) → ℕ → List X → 
 BranchPartsFit f u xs i = (i < length xs) × WellFilled u (total f (take i xs)) × WellFilled u (total f (drop (suc i) xs))
 
 -- both cuts, over costs alone: where the list costs neither too little nor too much, the parts fit
+abbrev pub sum : List ℕ → ℕ
+sum costs = total (λ c. c) costs
+
+abbrev pub leafCut : List ℕ → ℕ
+leafCut costs = fair (λ c. c) 0 costs
+
+abbrev pub branchCut : List ℕ → ℕ
+branchCut costs = middle (λ c. c) (sum costs) 0 costs
+
 abbrev pub LeafCutsFit : Type 0
 LeafCutsFit = (u m : ℕ) (costs : List ℕ) → All (λ c. c ≤ m) costs
-    → m + 2 * quarterOf u ≤ total (λ c. c) costs → total (λ c. c) costs + m ≤ suc (2 * u)
-    → LeafPartsFit (λ c. c) u costs (fair (λ c. c) 0 costs)
+    → m + 2 * quarterOf u ≤ sum costs → sum costs + m ≤ suc (2 * u)
+    → LeafPartsFit (λ c. c) u costs (leafCut costs)
 
 abbrev pub BranchCutsFit : Type 0
 BranchCutsFit = (u m : ℕ) (costs : List ℕ) → All (λ c. c ≤ m) costs
-    → 0 < total (λ c. c) costs → 2 * m + 2 * quarterOf u ≤ total (λ c. c) costs → total (λ c. c) costs ≤ suc (2 * u)
-    → BranchPartsFit (λ c. c) u costs (middle (λ c. c) (total (λ c. c) costs) 0 costs)
+    → 0 < sum costs → 2 * m + 2 * quarterOf u ≤ sum costs → sum costs ≤ suc (2 * u)
+    → BranchPartsFit (λ c. c) u costs (branchCut costs)
+
+-- the cell that a branch gives up is the first at which it and those before it cost more than half
+abbrev pub BranchCutsAreJustPastHalf : Type 0
+BranchCutsAreJustPastHalf = (costs : List ℕ) → 0 < sum costs
+    → (sum costs < 2 * sum (take (suc (branchCut costs)) costs))
+    × ((j : ℕ) → j < branchCut costs → 2 * sum (take (suc j) costs) ≤ sum costs)
 
 -- A leaf's list that is overfull by at most one cell, as an edit leaves it, or by less than a quarter, as a join
 -- does.
 abbrev pub OverfullLeafIsCut : ℕ → Type 0
-OverfullLeafIsCut u = (ps : List Pair) → All PairFits ps → u < total pairCost ps → total pairCost ps ≤ u + largestPair
+OverfullLeafIsCut u = (ps : List Pair) → All PairFits ps
+    → u < total pairCost ps → total pairCost ps ≤ u + max largestPair (quarterOf u)
     → LeafPartsFit pairCost u ps (fair pairCost 0 ps)
 
 -- The same for a branch: the costliest list is an underfull one joined with a full one, the separator between them.
 abbrev pub OverfullBranchIsCut : ℕ → Type 0
-OverfullBranchIsCut u = (cs : List (Cell ℕ)) → All CellFits cs → u < total cellCost cs → total cellCost cs < u + quarterOf u + largestCell
+OverfullBranchIsCut u = (cs : List (Cell ℕ)) → All CellFits cs
+    → u < total cellCost cs → total cellCost cs < u + quarterOf u + largestCell
     → BranchPartsFit cellCost u cs (middle cellCost (total cellCost cs) 0 cs)
 
 abbrev pub OverfullLeavesAreCut : Type 0
@@ -65,8 +82,10 @@ larger ps i = max (total pairCost (take i ps)) (total pairCost (drop i ps))
 -- no cut of a leaf has a cheaper larger part, and none with a shorter left part has as cheap a one
 abbrev pub LeafCutsAreFairest : Type 0
 LeafCutsAreFairest = (ps : List Pair) (j : ℕ)
-    → (larger ps (fair pairCost 0 ps) ≤ larger ps j) × (j < fair pairCost 0 ps → larger ps (fair pairCost 0 ps) < larger ps j)
+    → (larger ps (fair pairCost 0 ps) ≤ larger ps j)
+    × (j < fair pairCost 0 ps → larger ps (fair pairCost 0 ps) < larger ps j)
 
 -- a branch that is not underfull has two cells, and so three children
 abbrev pub FilledBranchesHaveTwoCells : Type 0
-FilledBranchesHaveTwoCells = (u : ℕ) → largestCell < quarterOf u → (cs : List (Cell ℕ)) → All CellFits cs → quarterOf u ≤ total cellCost cs → 2 ≤ length cs
+FilledBranchesHaveTwoCells = (u : ℕ) → largestCell < quarterOf u
+    → (cs : List (Cell ℕ)) → All CellFits cs → quarterOf u ≤ total cellCost cs → 2 ≤ length cs

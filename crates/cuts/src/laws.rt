@@ -1,6 +1,7 @@
 // The laws of separators and cuts. These functions do nothing: each carries the law in its contract.
-ghost use Rattle.cuts.specs.Laws.{SeparatorsAreShortest, LeafCutsFit, BranchCutsFit, OverfullLeavesAreCut};
-ghost use Rattle.cuts.specs.Laws.{OverfullBranchesAreCut, LeafCutsAreFairest, FilledBranchesHaveTwoCells};
+ghost use Rattle.cuts.specs.Laws.{SeparatorsAreShortest, LeafCutsAreFairest, BranchCutsAreJustPastHalf};
+ghost use Rattle.cuts.specs.Laws.{LeafCutsFit, BranchCutsFit, OverfullLeavesAreCut, OverfullBranchesAreCut};
+ghost use Rattle.cuts.specs.Laws.{FilledBranchesHaveTwoCells};
 
 pub fn separators_are_shortest() -> u8
     ensures { λ _. ⌜ SeparatorsAreShortest ⌝ }
@@ -16,6 +17,12 @@ pub fn leaf_cuts_fit() -> u8
 
 pub fn branch_cuts_fit() -> u8
     ensures { λ _. ⌜ BranchCutsFit ⌝ }
+{
+    0
+}
+
+pub fn branch_cuts_are_just_past_half() -> u8
+    ensures { λ _. ⌜ BranchCutsAreJustPastHalf ⌝ }
 {
     0
 }

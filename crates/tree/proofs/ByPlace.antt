@@ -1,8 +1,8 @@
 -- The steps at a branch, by the number of the child.
-use Prim.Native.Nat.{ℕ, zero, suc, _+_, _<_, _≤_}
-use mathlib.Core.Path.{_≡_, refl, sym, ap, _∙_}
+use Prim.Native.Nat.{ℕ, zero, suc, _<_, _≤_}
+use mathlib.Core.Path.{_≡_, refl, ap, _∙_}
 use mathlib.Core.List.{List, [], _∷_, _++_}
-use mathlib.Core.Bool.{Bool, true, false, cond, _||_}
+use mathlib.Core.Bool.{Bool, true, false, cond}
 use native.Mathlib.Omega.{arith}
 use lib.ListN.{length, take, drop, getD}
 use Rattle.cuts.specs.Keys.{key<, AtMost}
@@ -14,35 +14,42 @@ use Rattle.tree.specs.Sound.{Bound, before, Under}
 use Rattle.tree.specs.Search.{picked, childAt}
 use Rattle.tree.specs.Places.{separatorAt, splice, spliceTwo, joinAt, repairAt}
 use Rattle.tree.proofs.Strict.{Ranges}
-use Rattle.tree.proofs.Around.{lacks, wants}
+use Rattle.tree.proofs.Around.{wants}
 
 pub picked-within : {X : Type 0} (k : List ℕ) (cs : List (Cell X)) → picked k cs ≤ length cs
 picked-within k [] = omega arith
 picked-within k (c ∷ cs) = let r = picked-within k cs in grind arith
 
 -- what holds of the child that k lies under
-pub at-picked : {X : Type 0} (L : List ℕ → Bound → X → Type 0) (P : X → Type 0) (k : List ℕ) → ((lo : List ℕ) (hi : Bound) (x : X) → AtMost lo k → Under k hi → L lo hi x → P x)
-    → (lo : List ℕ) (hi : Bound) (x : X) (cs : List (Cell X)) → AtMost lo k → Under k hi → Ranges L lo hi x cs → P (childAt (picked k cs) x cs)
+pub at-picked : {X : Type 0} (L : List ℕ → Bound → X → Type 0) (P : X → Type 0) (k : List ℕ)
+    → ((lo : List ℕ) (hi : Bound) (x : X) → AtMost lo k → Under k hi → L lo hi x → P x)
+    → (lo : List ℕ) (hi : Bound) (x : X) (cs : List (Cell X)) → AtMost lo k → Under k hi → Ranges L lo hi x cs
+    → P (childAt (picked k cs) x cs)
 at-picked L P k f lo hi x [] p q h = f lo hi x p q (h .0)
-at-picked L P k f lo hi x (c ∷ cs) p q h = by (key< k (c .separator)) refl (λ t. at-picked L P k f (c .separator) hi (c .child) cs t q (h .1 .2, h .1 .3))
+at-picked L P k f lo hi x (c ∷ cs) p q h =
+    by (key< k (c .separator)) refl (λ t. at-picked L P k f (c .separator) hi (c .child) cs t q (h .1 .2, h .1 .3))
   where
-    by : (t : Bool) → key< k (c .separator) ≡ t → (AtMost (c .separator) k → P (childAt (picked k cs) (c .child) cs)) → P (childAt (cond t 0 (suc (picked k cs))) x (c ∷ cs))
+    by : (t : Bool) → key< k (c .separator) ≡ t → (AtMost (c .separator) k → P (childAt (picked k cs) (c .child) cs))
+        → P (childAt (cond t 0 (suc (picked k cs))) x (c ∷ cs))
     by true t r = f lo (before (c .separator)) x p t (h .0)
     by false t r = r t
 
 -- the edit at the child that k lies under
-pub place-at : {X : Type 0} (e : X → Grown X) (k : List ℕ) (x : X) (cs : List (Cell X)) → place e k x cs ≡ splice (picked k cs) (e (childAt (picked k cs) x cs)) x cs
+pub place-at : {X : Type 0} (e : X → Grown X) (k : List ℕ) (x : X) (cs : List (Cell X))
+    → place e k x cs ≡ splice (picked k cs) (e (childAt (picked k cs) x cs)) x cs
 unfolding place
 place-at e k x [] = refl
 place-at e k x (c ∷ cs) = let r = place-at e k (c .child) cs in grind arith
 
 -- where no child is underfull, nothing is joined
-pub mend-none : {X : Type 0} (under : X → Bool) (j : X → List ℕ → X → Grown X) (x : X) (cs : List (Cell X)) → wants under x cs ≡ 0 → mend under j x cs ≡ branch x cs
+pub mend-none : {X : Type 0} (under : X → Bool) (j : X → List ℕ → X → Grown X) (x : X) (cs : List (Cell X))
+    → wants under x cs ≡ 0 → mend under j x cs ≡ branch x cs
 unfolding mend total
 mend-none under j x [] w = refl
 mend-none under j x (c ∷ cs) w = let r = mend-none under j (c .child) cs (omega arith) in grind arith
 
-prepend-cond : {X : Type 0} (x : X) (s : List ℕ) (t : Bool) (a b : Branch X) → prepend x s (cond t a b) ≡ cond t (prepend x s a) (prepend x s b)
+prepend-cond : {X : Type 0} (x : X) (s : List ℕ) (t : Bool) (a b : Branch X)
+    → prepend x s (cond t a b) ≡ cond t (prepend x s a) (prepend x s b)
 prepend-cond x s true a b = refl
 prepend-cond x s false a b = refl
 
@@ -52,7 +59,8 @@ Settled under (one y) = Unit {0}
 Settled under (two l s r) = (under l ≡ false) × (under r ≡ false)
 
 module _ {X : Type 0} (under : X → Bool) (j : X → List ℕ → X → Grown X) where
-  mend-skip : (x : X) (s : List ℕ) (b : Branch X) → under x ≡ false → under (b .first) ≡ false → mended under j (prepend x s b) ≡ prepend x s (mended under j b)
+  mend-skip : (x : X) (s : List ℕ) (b : Branch X) → under x ≡ false → under (b .first) ≡ false
+      → mended under j (prepend x s b) ≡ prepend x s (mended under j b)
   unfolding mend
   mend-skip x s b u v = rw (u, v)
 
@@ -72,22 +80,27 @@ module _ {X : Type 0} (under : X → Bool) (j : X → List ℕ → X → Grown X
       mend-skip x (c .separator) (splice (suc i) (one y) (c .child) (d ∷ cs)) u v ∙ (ap (prepend x (c .separator)) r ∙ prepend-cond x (c .separator) (under y) _ _)
 
   -- two nodes that are not underfull are left alone
-  wants-two : (i : ℕ) (a b x : X) (s : List ℕ) (cs : List (Cell X)) → i ≤ length cs → under a ≡ false → under b ≡ false → wants under x cs ≡ 0
+  wants-two : (i : ℕ) (a b x : X) (s : List ℕ) (cs : List (Cell X)) → i ≤ length cs → under a ≡ false
+      → under b ≡ false → wants under x cs ≡ 0
       → wants under (splice i (two a s b) x cs .first) (splice i (two a s b) x cs .rest) ≡ 0
   unfolding total
   wants-two zero a b x s cs l p q w = grind arith
   wants-two (suc i) a b x s [] l p q w = let bad : ⊥ = omega arith in absurd bad
-  wants-two (suc i) a b x s (c ∷ cs) l p q w = let r = wants-two i a b (c .child) s cs (omega arith) p q (omega arith) in omega arith
+  wants-two (suc i) a b x s (c ∷ cs) l p q w =
+      let r = wants-two i a b (c .child) s cs (omega arith) p q (omega arith) in omega arith
 
-  pub mend-splice : (i : ℕ) (g : Grown X) (x : X) (cs : List (Cell X)) → i ≤ length cs → 0 < length cs → Settled under g → wants under x cs ≡ 0
+  pub mend-splice : (i : ℕ) (g : Grown X) (x : X) (cs : List (Cell X)) → i ≤ length cs → 0 < length cs
+      → Settled under g → wants under x cs ≡ 0
       → mended under j (splice i g x cs) ≡ repairAt under j i g x cs
   mend-splice i (one y) x cs l n s w = mend-one i y x cs l n w
   mend-splice i (two a s b) x cs l n h w = mend-none under j _ _ (wants-two i a b x s cs l (h .0) (h .1) w)
 
   -- so the edit of a child and the mending after it go by its place
-  pub mend-place : (e : X → Grown X) (k : List ℕ) (x : X) (cs : List (Cell X)) → 0 < length cs → Settled under (e (childAt (picked k cs) x cs)) → wants under x cs ≡ 0
+  pub mend-place : (e : X → Grown X) (k : List ℕ) (x : X) (cs : List (Cell X)) → 0 < length cs
+      → Settled under (e (childAt (picked k cs) x cs)) → wants under x cs ≡ 0
       → mended under j (place e k x cs) ≡ repairAt under j (picked k cs) (e (childAt (picked k cs) x cs)) x cs
-  mend-place e k x cs n s w = rw (place-at e k x cs) (mend-splice (picked k cs) (e (childAt (picked k cs) x cs)) x cs (picked-within k cs) n s w)
+  mend-place e k x cs n s w =
+      rw (place-at e k x cs) (mend-splice (picked k cs) (e (childAt (picked k cs) x cs)) x cs (picked-within k cs) n s w)
 
 -- the places in the list of cells; d is any cell
 module _ {X : Type 0} (d : Cell X) where

@@ -1,6 +1,6 @@
 -- How many nodes an edit adds.
 use Prim.Native.Nat.{ℕ, zero, suc, _+_, _<_, _≤_}
-use mathlib.Core.Path.{_≡_, refl, sym, ap, _∙_}
+use mathlib.Core.Path.{_≡_, refl, ap}
 use mathlib.Core.List.{List, [], _∷_, _++_}
 use mathlib.Core.Bool.{Bool, true, false, cond, _||_}
 use native.Mathlib.Omega.{arith}
@@ -8,21 +8,21 @@ use lib.Dec.{leb}
 use lib.ListN.{length, take, drop}
 use Rattle.std.proofs.shelf.Lists.{take-append-drop}
 use Rattle.std.proofs.shelf.Ways.{tells}
-use Rattle.cuts.specs.Keys.{key<, AtMost}
-use Rattle.cuts.specs.Nodes.{Pair, Cell, Branch, pairCost, cellCost}
+use Rattle.cuts.specs.Keys.{AtMost}
+use Rattle.cuts.specs.Nodes.{Pair, Cell, cellCost}
 use Rattle.cuts.specs.Cuts.{total, middle}
 use Rattle.cuts.specs.Sizes.{usable}
 use Rattle.cuts.proofs.Order.{less-nil}
 use Rattle.cuts.proofs.Balance.{total-append}
 use Rattle.tree.specs.Maps.{insert, delete}
-use Rattle.tree.specs.Trees.{branch, cell, Tree, BTree, levels, leafCost, branchCost, cost, underfull}
-use Rattle.tree.specs.Edits.{Grown, one, two, cut, cutLeaf, giveUp, cutBranch, fit, merge, join, inPlace, prepend, place, placed, mend, mended, edit, giveWay, rooted}
-use Rattle.tree.specs.Sound.{Bound, none, before, Under, top, Light, Full, SoundTree}
+use Rattle.tree.specs.Trees.{branch, cell, Tree, leafCost, cost, underfull}
+use Rattle.tree.specs.Edits.{Grown, one, two, cut, cutLeaf, giveUp, fit, merge, join, inPlace, prepend, place, placed, mend, mended, edit, giveWay, rooted}
+use Rattle.tree.specs.Sound.{Bound, none, Under, Light, Full}
 use Rattle.tree.specs.Search.{picked, childAt}
 use Rattle.tree.specs.Places.{splice, spliceTwo}
 use Rattle.tree.specs.Counts.{sumOver, nodes, nodesOf}
 use Rattle.tree.specs.LawsOfSize.{EditsAddFewNodes}
-use Rattle.tree.proofs.Strict.{Ranges, Strict, strict-tree}
+use Rattle.tree.proofs.Strict.{Strict, strict-tree}
 use Rattle.tree.proofs.ByPlace.{place-at, picked-within, at-picked}
 use Rattle.tree.proofs.Kept.{delete-cost}
 
@@ -32,7 +32,8 @@ sumGrown w (one x) = w x
 sumGrown w (two l s r) = w l + w r
 
 module _ {X : Type 0} (w : X → ℕ) where
-  pub splice-sum : (i : ℕ) (g : Grown X) (x : X) (cs : List (Cell X)) → i ≤ length cs → sumOver w (splice i g x cs) + w (childAt i x cs) ≡ sumGrown w g + sumOver w (branch x cs)
+  pub splice-sum : (i : ℕ) (g : Grown X) (x : X) (cs : List (Cell X)) → i ≤ length cs
+      → sumOver w (splice i g x cs) + w (childAt i x cs) ≡ sumGrown w g + sumOver w (branch x cs)
   unfolding total
   splice-sum zero (one y) x cs l = omega arith
   splice-sum zero (two a s b) x cs l = omega arith
@@ -47,16 +48,21 @@ module _ {X : Type 0} (w : X → ℕ) where
   splice-two-sum zero (two a s b) x (c ∷ cs) l = omega arith
   splice-two-sum (suc i) g x (c ∷ cs) l = let r = splice-two-sum i g (c .child) cs (omega arith) in omega arith
 
-  place-sum : (e : X → Grown X) (k : List ℕ) (d : ℕ) (x : X) (cs : List (Cell X)) → sumGrown w (e (childAt (picked k cs) x cs)) ≤ w (childAt (picked k cs) x cs) + d
+  place-sum : (e : X → Grown X) (k : List ℕ) (d : ℕ) (x : X) (cs : List (Cell X))
+      → sumGrown w (e (childAt (picked k cs) x cs)) ≤ w (childAt (picked k cs) x cs) + d
       → sumOver w (place e k x cs) ≤ sumOver w (branch x cs) + d
-  place-sum e k d x cs h = let s = splice-sum (picked k cs) (e (childAt (picked k cs) x cs)) x cs (picked-within k cs) in rw (place-at e k x cs) (omega arith)
+  place-sum e k d x cs h =
+      let s = splice-sum (picked k cs) (e (childAt (picked k cs) x cs)) x cs (picked-within k cs) in
+      rw (place-at e k x cs) (omega arith)
 
-  in-place-sum : (g : Grown X) (cs : List (Cell X)) → sumOver w (inPlace g cs) ≡ sumGrown w g + total (λ c. w (c .child)) cs
+  in-place-sum : (g : Grown X) (cs : List (Cell X))
+      → sumOver w (inPlace g cs) ≡ sumGrown w g + total (λ c. w (c .child)) cs
   unfolding total
   in-place-sum (one y) cs = refl
   in-place-sum (two a s b) cs = omega arith
 
-  mend-sum : (under : X → Bool) (j : X → List ℕ → X → Grown X) → ((l : X) (s : List ℕ) (r : X) → sumGrown w (j l s r) ≤ w l + w r)
+  mend-sum : (under : X → Bool) (j : X → List ℕ → X → Grown X)
+      → ((l : X) (s : List ℕ) (r : X) → sumGrown w (j l s r) ≤ w l + w r)
       → (x : X) (cs : List (Cell X)) → sumOver w (mend under j x cs) ≤ sumOver w (branch x cs)
   unfolding mend total
   mend-sum under j h x [] = omega arith
@@ -68,7 +74,8 @@ module _ {X : Type 0} (w : X → ℕ) where
       (λ t. sumOver w (cond t (inPlace (j x (c .separator) (c .child)) cs) (prepend x (c .separator) (mend under j (c .child) cs))) ≤ sumOver w (branch x (c ∷ cs)))
       [ true ↦ omega arith | false ↦ omega arith ]
 
-  give-up-sum : (x : X) (bs cs : List (Cell X)) → sumGrown (λ b. suc (sumOver w b)) (giveUp x bs cs) ≤ suc (suc (sumOver w (branch x (bs ++ cs))))
+  give-up-sum : (x : X) (bs cs : List (Cell X))
+      → sumGrown (λ b. suc (sumOver w b)) (giveUp x bs cs) ≤ suc (suc (sumOver w (branch x (bs ++ cs))))
   unfolding total
   give-up-sum x bs [] = let a = total-append (λ (c : Cell X). w (c .child)) bs [] in omega arith
   give-up-sum x bs (c ∷ cs) = let a = total-append (λ (c : Cell X). w (c .child)) bs (c ∷ cs) in omega arith
@@ -85,7 +92,9 @@ cut-nodes (suc n) t =
 merge-nodes : (n : ℕ) (l : Tree n) (s : List ℕ) (r : Tree n) → suc (nodes n (merge n l s r)) ≡ nodes n l + nodes n r
 unfolding total
 merge-nodes zero l s r = refl
-merge-nodes (suc n) l s r = let a = total-append (λ (c : Cell (Tree n)). nodes n (c .child)) (l .rest) (cell s (r .first) ∷ r .rest) in omega arith
+merge-nodes (suc n) l s r =
+    let a = total-append (λ (c : Cell (Tree n)). nodes n (c .child)) (l .rest) (cell s (r .first) ∷ r .rest) in
+    omega arith
 
 fit-nodes : (n : ℕ) (t : Tree n) → sumGrown (nodes n) (fit (cost n) (cut n) t) ≤ suc (nodes n t)
 unfolding fit
@@ -93,11 +102,13 @@ fit-nodes n t =
     let c = cut-nodes n t in
     elim (leb (cost n t) usable) as (λ b. sumGrown (nodes n) (cond b (one t) (cut n t)) ≤ suc (nodes n t)) [ true ↦ omega arith | false ↦ c ]
 
-join-nodes : (n : ℕ) (l : Tree n) (s : List ℕ) (r : Tree n) → sumGrown (nodes n) (join n l s r) ≤ nodes n l + nodes n r
+join-nodes : (n : ℕ) (l : Tree n) (s : List ℕ) (r : Tree n)
+    → sumGrown (nodes n) (join n l s r) ≤ nodes n l + nodes n r
 join-nodes n l s r = let f = fit-nodes n (merge n l s r) in let m = merge-nodes n l s r in omega arith
 
 -- an edit that adds at most a nodes at a leaf
-edit-nodes : (e : List Pair → List Pair) (k : List ℕ) (a : ℕ) → ((ps : List Pair) → leafCost ps ≤ usable → sumGrown (nodes zero) (fit leafCost cutLeaf (e ps)) ≤ suc a)
+edit-nodes : (e : List Pair → List Pair) (k : List ℕ) (a : ℕ)
+    → ((ps : List Pair) → leafCost ps ≤ usable → sumGrown (nodes zero) (fit leafCost cutLeaf (e ps)) ≤ suc a)
     → (n : ℕ) (lo : List ℕ) (hi : Bound) (t : Tree n) → AtMost lo k → Under k hi → Light n (Strict n) lo hi t
     → sumGrown (nodes n) (edit e k n t) ≤ nodes n t + (n + a)
 unfolding edit
@@ -116,7 +127,8 @@ unfolding total
 rooted-nodes zero (one t) = omega arith
 rooted-nodes (suc n) (one t) = by (t .first) (t .rest)
   where
-    by : (x : Tree n) (cs : List (Cell (Tree n))) → nodesOf (giveWay n x cs) ≤ suc (suc (sumOver (nodes n) (branch x cs)))
+    by : (x : Tree n) (cs : List (Cell (Tree n)))
+        → nodesOf (giveWay n x cs) ≤ suc (suc (sumOver (nodes n) (branch x cs)))
     by x [] = omega arith
     by x (c ∷ cs) = omega arith
 rooted-nodes n (two l s r) = omega arith
@@ -124,9 +136,12 @@ rooted-nodes n (two l s r) = omega arith
 put-leaf : (k v : List ℕ) (ps : List Pair) → sumGrown (nodes zero) (fit leafCost cutLeaf (insert k v ps)) ≤ 2
 put-leaf k v ps = fit-nodes zero (insert k v ps)
 
-remove-leaf : (k : List ℕ) (ps : List Pair) → leafCost ps ≤ usable → sumGrown (nodes zero) (fit leafCost cutLeaf (delete k ps)) ≤ 1
+remove-leaf : (k : List ℕ) (ps : List Pair) → leafCost ps ≤ usable
+    → sumGrown (nodes zero) (fit leafCost cutLeaf (delete k ps)) ≤ 1
 unfolding fit
-remove-leaf k ps h = let d = delete-cost k ps in let t : leb (leafCost (delete k ps)) usable ≡ true = grind (arith, tells) in rw t (omega arith)
+remove-leaf k ps h =
+    let d = delete-cost k ps in
+    let t : leb (leafCost (delete k ps)) usable ≡ true = grind (arith, tells) in rw t (omega arith)
 
 pub edits-add-few-nodes : EditsAddFewNodes
 edits-add-few-nodes b h k v =

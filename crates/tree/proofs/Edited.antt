@@ -1,14 +1,14 @@
 -- What an edit does, by place and by key.
-use Prim.Native.Nat.{ℕ, suc, _<_, _≤_}
+use Prim.Native.Nat.{ℕ, suc, _<_}
 use mathlib.Core.Path.{_≡_, sym, ap, _∙_}
-use mathlib.Core.List.{List, []}
+use mathlib.Core.List.{List}
 use lib.ListN.{length}
-use Rattle.cuts.specs.Keys.{AtMost, KeyFits}
+use Rattle.cuts.specs.Keys.{AtMost}
 use Rattle.cuts.specs.Nodes.{Pair}
 use Rattle.tree.specs.Maps.{insert, delete, lookup}
-use Rattle.tree.specs.Trees.{Tree, BTree, branchCost, underfull, pairsOf}
+use Rattle.tree.specs.Trees.{Tree, branchCost, underfull, pairsOf}
 use Rattle.tree.specs.Edits.{Grown, one, two, cutBranch, fit, join, edit, put, remove}
-use Rattle.tree.specs.Sound.{Bound, Under, Light, Full, Forked, SoundTree}
+use Rattle.tree.specs.Sound.{Bound, Under, Light, Full}
 use Rattle.tree.specs.Search.{picked, childAt, get}
 use Rattle.tree.specs.Places.{editByPlace}
 use Rattle.tree.specs.Laws.{EditsGoByPlace, EditsChangeOneKey}
@@ -20,19 +20,23 @@ use Rattle.tree.proofs.Kept.{Edits, insert-edits, delete-edits, edit-strict, r
 use Rattle.tree.proofs.ByPlace.{Settled, mend-place, at-picked}
 use Rattle.tree.proofs.Searches.{search-finds-the-pair}
 
-good-settled : (n : ℕ) (lo : List ℕ) (hi : Bound) (g : Grown (Tree n)) → Good (underfull n) (Light n (Strict n)) lo hi g → Settled (underfull n) g
+good-settled : (n : ℕ) (lo : List ℕ) (hi : Bound) (g : Grown (Tree n))
+    → Good (underfull n) (Light n (Strict n)) lo hi g → Settled (underfull n) g
 good-settled n lo hi (one x) h = tt
 good-settled n lo hi (two l s r) h = (h .5, h .6)
 
 -- a child that comes back as two nodes is not underfull
-pub settled : (e : List Pair → List Pair) (k : List ℕ) → Edits e k → (n : ℕ) (lo : List ℕ) (hi : Bound) (t : Tree (suc n)) → AtMost lo k → Under k hi → Light (suc n) (Strict (suc n)) lo hi t
+pub settled : (e : List Pair → List Pair) (k : List ℕ) → Edits e k
+    → (n : ℕ) (lo : List ℕ) (hi : Bound) (t : Tree (suc n)) → AtMost lo k → Under k hi
+    → Light (suc n) (Strict (suc n)) lo hi t
     → Settled (underfull n) (edit e k n (childAt (picked k (t .rest)) (t .first) (t .rest)))
 settled e k ed n lo hi t p q h =
     at-picked (Full n (Strict n)) (λ x. Settled (underfull n) (edit e k n x)) k
     (λ lo′ hi′ x p′ q′ z. good-settled n lo′ hi′ _ (edit-strict e k ed n lo′ hi′ x p′ q′ (full-forked n x (under-no n x (z .0))) (z .1)))
     lo hi (t .first) (t .rest) p q (h .1 .0)
 
-pub edit-by-place : (e : List Pair → List Pair) (k : List ℕ) → Edits e k → (n : ℕ) (lo : List ℕ) (hi : Bound) (t : Tree (suc n)) → AtMost lo k → Under k hi → 0 < length (t .rest)
+pub edit-by-place : (e : List Pair → List Pair) (k : List ℕ) → Edits e k
+    → (n : ℕ) (lo : List ℕ) (hi : Bound) (t : Tree (suc n)) → AtMost lo k → Under k hi → 0 < length (t .rest)
     → Light (suc n) (Strict (suc n)) lo hi t → edit e k (suc n) t ≡ editByPlace e k n t
 unfolding edit
 edit-by-place e k ed n lo hi t p q f h =

@@ -12,7 +12,7 @@ use Rattle.cuts.specs.Nodes.{Pair, Cell, Branch}
 use Rattle.cuts.specs.Sizes.{usable}
 use Rattle.cuts.proofs.Order.{less-self, less-most, most-from-less, most-trans}
 use Rattle.tree.specs.Maps.{insert, delete, Rising}
-use Rattle.tree.specs.Trees.{Tree, BTree, cost, underfull, across, pairs, pairsOf}
+use Rattle.tree.specs.Trees.{Tree, cost, underfull, across, pairs, pairsOf}
 use Rattle.tree.specs.Edits.{Grown, one, two, cut, giveUp, fit, merge, join, inPlace, prepend, place, placed, mend, mended, edit, giveWay, rooted}
 use Rattle.tree.specs.Sound.{Bound, none, before, Under, Within}
 use Rattle.tree.specs.Laws.{PutsInsertAndRemovesDelete, TreesAreMaps}
@@ -36,22 +36,27 @@ pub delete-local : (k : List ℕ) → Local (delete k) k
 delete-local k = record { left = delete-left k; right = delete-right k }
 
 module _ {X : Type 0} (f : X → List Pair) where
-  pub joined-append : (bs cs : List (Cell X)) → joined (λ c. f (c .child)) (bs ++ cs) ≡ joined (λ c. f (c .child)) bs ++ joined (λ c. f (c .child)) cs
+  pub joined-append : (bs cs : List (Cell X))
+      → joined (λ c. f (c .child)) (bs ++ cs) ≡ joined (λ c. f (c .child)) bs ++ joined (λ c. f (c .child)) cs
   joined-append [] cs = refl
   joined-append (b ∷ bs) cs = let r = joined-append bs cs in rw r (sym (append-assoc (f (b .child)) _ _))
 
-  pub across-append : (x : X) (bs : List (Cell X)) (c : Cell X) (cs : List (Cell X)) → across f x (bs ++ c ∷ cs) ≡ across f x bs ++ across f (c .child) cs
+  pub across-append : (x : X) (bs : List (Cell X)) (c : Cell X) (cs : List (Cell X))
+      → across f x (bs ++ c ∷ cs) ≡ across f x bs ++ across f (c .child) cs
   across-append x bs c cs = rw (joined-append bs (c ∷ cs)) (sym (append-assoc (f x) _ _))
 
-  pub in-place-pairs : (g : Grown X) (cs : List (Cell X)) → across f (inPlace g cs .first) (inPlace g cs .rest) ≡ grown f g ++ joined (λ c. f (c .child)) cs
+  pub in-place-pairs : (g : Grown X) (cs : List (Cell X))
+      → across f (inPlace g cs .first) (inPlace g cs .rest) ≡ grown f g ++ joined (λ c. f (c .child)) cs
   in-place-pairs (one x) cs = refl
   in-place-pairs (two l s r) cs = sym (append-assoc (f l) (f r) _)
 
-  pub give-up-pairs : (x : X) (bs cs : List (Cell X)) → grown (λ (b : Branch X). across f (b .first) (b .rest)) (giveUp x bs cs) ≡ across f x (bs ++ cs)
+  pub give-up-pairs : (x : X) (bs cs : List (Cell X))
+      → grown (λ (b : Branch X). across f (b .first) (b .rest)) (giveUp x bs cs) ≡ across f x (bs ++ cs)
   give-up-pairs x bs [] = rw append-nil
   give-up-pairs x bs (c ∷ cs) = sym (across-append x bs c cs)
 
-  pub mend-pairs : (under : X → Bool) (j : X → List ℕ → X → Grown X) → ((l : X) (s : List ℕ) (r : X) → grown f (j l s r) ≡ f l ++ f r)
+  pub mend-pairs : (under : X → Bool) (j : X → List ℕ → X → Grown X)
+      → ((l : X) (s : List ℕ) (r : X) → grown f (j l s r) ≡ f l ++ f r)
       → (x : X) (cs : List (Cell X)) → across f (mend under j x cs .first) (mend under j x cs .rest) ≡ across f x cs
   unfolding mend
   mend-pairs under j h x [] = refl
@@ -72,17 +77,21 @@ cut-pairs (suc n) t = give-up-pairs (pairs n) (t .first) _ _ ∙ ap (across (pai
 
 pub fit-pairs : (n : ℕ) (t : Tree n) → grown (pairs n) (fit (cost n) (cut n) t) ≡ pairs n t
 unfolding fit
-fit-pairs n t = elim (leb (cost n t) usable) as (λ b. grown (pairs n) (cond b (one t) (cut n t)) ≡ pairs n t) [ true ↦ refl | false ↦ cut-pairs n t ]
+fit-pairs n t =
+    elim (leb (cost n t) usable) as (λ b. grown (pairs n) (cond b (one t) (cut n t)) ≡ pairs n t) [ true ↦ refl | false ↦ cut-pairs n t ]
 
-pub join-pairs : (n : ℕ) (l : Tree n) (s : List ℕ) (r : Tree n) → grown (pairs n) (join n l s r) ≡ pairs n l ++ pairs n r
+pub join-pairs : (n : ℕ) (l : Tree n) (s : List ℕ) (r : Tree n)
+    → grown (pairs n) (join n l s r) ≡ pairs n l ++ pairs n r
 join-pairs n l s r = fit-pairs n (merge n l s r) ∙ merge-pairs n l s r
 
 -- Where the pairs lie.
-pub within-wide : (lo lo′ : List ℕ) (hi hi′ : Bound) → AtMost lo′ lo → ((a : List ℕ) → Under a hi → Under a hi′) → (ps : List Pair) → Within lo hi ps → Within lo′ hi′ ps
+pub within-wide : (lo lo′ : List ℕ) (hi hi′ : Bound) → AtMost lo′ lo → ((a : List ℕ) → Under a hi → Under a hi′)
+    → (ps : List Pair) → Within lo hi ps → Within lo′ hi′ ps
 within-wide lo lo′ hi hi′ p q ps h = all-weaker _ _ (λ x b. (most-trans lo′ lo (x .key) p (b .0), q (x .key) (b .1))) ps h
 
 module _ {X : Type 0} (S : List ℕ → Bound → X → Type 0) (f : X → List Pair) (in′ : (lo : List ℕ) (hi : Bound) (x : X) → S lo hi x → Within lo hi (f x)) where
-  pub ranges-within : (lo : List ℕ) (hi : Bound) (x : X) (cs : List (Cell X)) → Ranges S lo hi x cs → Within lo hi (across f x cs)
+  pub ranges-within : (lo : List ℕ) (hi : Bound) (x : X) (cs : List (Cell X)) → Ranges S lo hi x cs
+      → Within lo hi (across f x cs)
   ranges-within lo hi x [] h = all-append _ (f x) [] (in′ lo hi x (h .0)) tt
   ranges-within lo hi x (c ∷ cs) h =
       all-append _ (f x) _
@@ -94,11 +103,16 @@ module _ {X : Type 0} (S : List ℕ → Bound → X → Type 0) (f : X → List 
       → (lo : List ℕ) (hi : Bound) (x : X) (cs : List (Cell X)) → Ranges S lo hi x cs
       → across f (place g k x cs .first) (place g k x cs .rest) ≡ e (across f x cs)
   unfolding place
-  place-pairs e k loc g ge lo hi x [] h = in-place-pairs f (g x) [] ∙ (append-nil _ ∙ (ge lo hi x (h .0) ∙ ap e (sym (append-nil (f x)))))
-  place-pairs e k loc g ge lo hi x (c ∷ cs) h = by (key< k (c .separator)) refl (place-pairs e k loc g ge (c .separator) hi (c .child) cs (h .1 .2, h .1 .3))
+  place-pairs e k loc g ge lo hi x [] h =
+      in-place-pairs f (g x) [] ∙ (append-nil _ ∙ (ge lo hi x (h .0) ∙ ap e (sym (append-nil (f x)))))
+  place-pairs e k loc g ge lo hi x (c ∷ cs) h =
+      by (key< k (c .separator)) refl (place-pairs e k loc g ge (c .separator) hi (c .child) cs (h .1 .2, h .1 .3))
     where
-      by : (t : Bool) → key< k (c .separator) ≡ t → across f (place g k (c .child) cs .first) (place g k (c .child) cs .rest) ≡ e (across f (c .child) cs) → let b = cond t (inPlace (g x) (c ∷ cs)) (prepend x (c .separator) (place g k (c .child) cs)) in across f (b .first) (b .rest) ≡ e (across f x (c ∷ cs))
-      by true t r = in-place-pairs f (g x) (c ∷ cs) ∙ (ap (λ (l : List Pair). l ++ across f (c .child) cs) (ge lo (before (c .separator)) x (h .0))
+      by : (t : Bool) → key< k (c .separator) ≡ t
+          → across f (place g k (c .child) cs .first) (place g k (c .child) cs .rest) ≡ e (across f (c .child) cs)
+          → let b = cond t (inPlace (g x) (c ∷ cs)) (prepend x (c .separator) (place g k (c .child) cs)) in across f (b .first) (b .rest) ≡ e (across f x (c ∷ cs))
+      by true t r =
+          in-place-pairs f (g x) (c ∷ cs) ∙ (ap (λ (l : List Pair). l ++ across f (c .child) cs) (ge lo (before (c .separator)) x (h .0))
           ∙ sym (loc .left (f x) (across f (c .child) cs) (all-weaker _ _ (λ q b. less-most k (c .separator) (q .key) t (b .0)) _ (ranges-within (c .separator) hi (c .child) cs (h .1 .2, h .1 .3)))))
       by false t r = ap (λ (l : List Pair). f x ++ l) r
           ∙ sym (loc .right (f x) (across f (c .child) cs) (all-weaker _ _ (λ q b. less-most (q .key) (c .separator) k (b .1) t) _ (in′ lo (before (c .separator)) x (h .0))))
@@ -108,7 +122,9 @@ within zero lo hi t h = h .1
 within (suc n) lo hi t h = ranges-within (Ordered n) (pairs n) (within n) lo hi (t .first) (t .rest) h
 
 -- an edit of the tree is the edit of its pairs
-pub edit-pairs : (e : List Pair → List Pair) (k : List ℕ) → Local e k → (n : ℕ) (lo : List ℕ) (hi : Bound) (t : Tree n) → Ordered n lo hi t → grown (pairs n) (edit e k n t) ≡ e (pairs n t)
+pub edit-pairs : (e : List Pair → List Pair) (k : List ℕ) → Local e k
+    → (n : ℕ) (lo : List ℕ) (hi : Bound) (t : Tree n) → Ordered n lo hi t
+    → grown (pairs n) (edit e k n t) ≡ e (pairs n t)
 unfolding edit
 edit-pairs e k loc zero lo hi t h = fit-pairs zero (e t)
 edit-pairs e k loc (suc n) lo hi t h =
@@ -126,12 +142,14 @@ rooted-pairs (suc n) (one t) = give-way-pairs n (t .first) (t .rest)
 rooted-pairs n (two l s r) = ap (λ (x : List Pair). pairs n l ++ x) (append-nil (pairs n r))
 
 -- the pairs rise
-pub rising-append : (xs ys : List Pair) → Rising xs → Rising ys → All (λ (p : Pair). All (λ (q : Pair). Below (p .key) (q .key)) ys) xs → Rising (xs ++ ys)
+pub rising-append : (xs ys : List Pair) → Rising xs → Rising ys
+    → All (λ (p : Pair). All (λ (q : Pair). Below (p .key) (q .key)) ys) xs → Rising (xs ++ ys)
 rising-append [] ys h k a = k
 rising-append (x ∷ xs) ys h k a = (all-append _ xs ys (h .0) (a .0), rising-append xs ys (h .1) k (a .1))
 
 pub across-rising : (n : ℕ) → ((lo : List ℕ) (hi : Bound) (t : Tree n) → Ordered n lo hi t → Rising (pairs n t))
-    → (lo : List ℕ) (hi : Bound) (x : Tree n) (cs : List (Cell (Tree n))) → Ranges (Ordered n) lo hi x cs → Rising (across (pairs n) x cs)
+    → (lo : List ℕ) (hi : Bound) (x : Tree n) (cs : List (Cell (Tree n))) → Ranges (Ordered n) lo hi x cs
+    → Rising (across (pairs n) x cs)
 across-rising n f lo hi x [] h = rw append-nil (f lo hi x (h .0))
 across-rising n f lo hi x (c ∷ cs) h =
     let r = across-rising n f (c .separator) hi (c .child) cs (h .1 .2, h .1 .3) in

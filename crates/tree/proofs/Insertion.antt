@@ -1,13 +1,12 @@
 -- Insertion into a list of pairs, and deletion from it.
 use Prim.Native.Nat.{ℕ}
-use mathlib.Core.Path.{_≡_, refl, sym, _∙_}
+use mathlib.Core.Path.{_≡_, refl, _∙_}
 use mathlib.Core.List.{List, [], _∷_, _++_}
-use mathlib.Core.Bool.{true, false}
 use native.Mathlib.Omega.{arith}
 use Rattle.std.specs.shelf.Lists.{All}
 use Rattle.std.proofs.shelf.Elements.{all-weaker}
 use Rattle.std.specs.declared.option.Option.the-variants.{Some, None}
-use Rattle.cuts.specs.Keys.{key<, Below}
+use Rattle.cuts.specs.Keys.{Below}
 use Rattle.cuts.specs.Nodes.{Pair}
 use Rattle.cuts.proofs.Order.{less-self, less-trans, ways, less, more, same, key-tells}
 use Rattle.tree.specs.Maps.{pair, compared, insert, delete, lookup, Rising}
@@ -29,7 +28,8 @@ insert-rising k v (p ∷ ps) r = elim (ways k (p .key)) [
   | same e g s ↦ rw (e, g) (rw s (r .0), r .1)
 ]
 
-pub lookup-insert : (k v k′ : List ℕ) (ps : List Pair) → lookup k′ (insert k v ps) ≡ compared k′ k (lookup k′ ps) (Some v) (lookup k′ ps)
+pub lookup-insert : (k v k′ : List ℕ) (ps : List Pair)
+    → lookup k′ (insert k v ps) ≡ compared k′ k (lookup k′ ps) (Some v) (lookup k′ ps)
 unfolding insert lookup
 lookup-insert k v k′ [] = grind (arith, key-tells)
 lookup-insert k v k′ (p ∷ ps) = let h = lookup-insert k v k′ ps in grind (arith, key-tells)
@@ -51,7 +51,8 @@ unfolding lookup
 lookup-above k [] h = refl
 lookup-above k (p ∷ ps) h = let r = lookup-above k ps (h .1) in grind (arith, key-tells)
 
-pub lookup-delete : (k k′ : List ℕ) (ps : List Pair) → Rising ps → lookup k′ (delete k ps) ≡ compared k′ k (lookup k′ ps) None (lookup k′ ps)
+pub lookup-delete : (k k′ : List ℕ) (ps : List Pair) → Rising ps
+    → lookup k′ (delete k ps) ≡ compared k′ k (lookup k′ ps) None (lookup k′ ps)
 unfolding delete lookup
 lookup-delete k k′ [] r = grind (arith, key-tells)
 lookup-delete k k′ (p ∷ ps) r =
@@ -61,17 +62,20 @@ lookup-delete k k′ (p ∷ ps) r =
     grind (arith, key-tells)
 
 -- an insertion below what follows, and above what comes before
-pub insert-front : (k v : List ℕ) (ys : List Pair) → All (λ (q : Pair). Below k (q .key)) ys → insert k v ys ≡ pair k v ∷ ys
+pub insert-front : (k v : List ℕ) (ys : List Pair) → All (λ (q : Pair). Below k (q .key)) ys
+    → insert k v ys ≡ pair k v ∷ ys
 unfolding insert
 insert-front k v [] h = refl
 insert-front k v (y ∷ ys) h = let e = h .0 in rw e
 
-pub insert-left : (k v : List ℕ) (xs ys : List Pair) → All (λ (q : Pair). Below k (q .key)) ys → insert k v (xs ++ ys) ≡ insert k v xs ++ ys
+pub insert-left : (k v : List ℕ) (xs ys : List Pair) → All (λ (q : Pair). Below k (q .key)) ys
+    → insert k v (xs ++ ys) ≡ insert k v xs ++ ys
 unfolding insert
 insert-left k v [] ys h = insert-front k v ys h
 insert-left k v (x ∷ xs) ys h = let r = insert-left k v xs ys h in grind (arith, key-tells)
 
-pub insert-right : (k v : List ℕ) (xs ys : List Pair) → All (λ (q : Pair). Below (q .key) k) xs → insert k v (xs ++ ys) ≡ xs ++ insert k v ys
+pub insert-right : (k v : List ℕ) (xs ys : List Pair) → All (λ (q : Pair). Below (q .key) k) xs
+    → insert k v (xs ++ ys) ≡ xs ++ insert k v ys
 unfolding insert
 insert-right k v [] ys h = refl
 insert-right k v (x ∷ xs) ys h = let r = insert-right k v xs ys (h .1) in grind (arith, key-tells)
@@ -81,12 +85,14 @@ unfolding delete
 delete-front k [] h = refl
 delete-front k (y ∷ ys) h = let e = h .0 in rw e
 
-pub delete-left : (k : List ℕ) (xs ys : List Pair) → All (λ (q : Pair). Below k (q .key)) ys → delete k (xs ++ ys) ≡ delete k xs ++ ys
+pub delete-left : (k : List ℕ) (xs ys : List Pair) → All (λ (q : Pair). Below k (q .key)) ys
+    → delete k (xs ++ ys) ≡ delete k xs ++ ys
 unfolding delete
 delete-left k [] ys h = delete-front k ys h
 delete-left k (x ∷ xs) ys h = let r = delete-left k xs ys h in grind (arith, key-tells)
 
-pub delete-right : (k : List ℕ) (xs ys : List Pair) → All (λ (q : Pair). Below (q .key) k) xs → delete k (xs ++ ys) ≡ xs ++ delete k ys
+pub delete-right : (k : List ℕ) (xs ys : List Pair) → All (λ (q : Pair). Below (q .key) k) xs
+    → delete k (xs ++ ys) ≡ xs ++ delete k ys
 unfolding delete
 delete-right k [] ys h = refl
 delete-right k (x ∷ xs) ys h = let r = delete-right k xs ys (h .1) in grind (arith, key-tells)

@@ -19,7 +19,8 @@ pub all-split : {X : Type 0} (P : X → Type 0) (xs ys : List X) → All P (xs +
 all-split P [] ys h = (tt, h)
 all-split P (x ∷ xs) ys h = let r = all-split P xs ys (h .1) in ((h .0, r .0), r .1)
 
-pub rising-split : (xs ys : List Pair) → Rising (xs ++ ys) → Rising xs × Rising ys × All (λ (p : Pair). All (λ (q : Pair). Below (p .key) (q .key)) ys) xs
+pub rising-split : (xs ys : List Pair) → Rising (xs ++ ys)
+    → Rising xs × Rising ys × All (λ (p : Pair). All (λ (q : Pair). Below (p .key) (q .key)) ys) xs
 rising-split [] ys h = (tt, h, tt)
 rising-split (x ∷ xs) ys h =
     let r = rising-split xs ys (h .1) in
@@ -38,17 +39,20 @@ pub first-least : (xs : List Pair) → Rising xs → All (λ (p : Pair). AtMost 
 first-least [] h = tt
 first-least (x ∷ xs) h = (less-self (x .key), all-weaker _ _ (λ q b. most-from-less (x .key) (q .key) b) xs (h .0))
 
-pub all-both : {X : Type 0} (P Q R : X → Type 0) → ((x : X) → P x → Q x → R x) → (xs : List X) → All P xs → All Q xs → All R xs
+pub all-both : {X : Type 0} (P Q R : X → Type 0) → ((x : X) → P x → Q x → R x) → (xs : List X) → All P xs → All Q xs
+    → All R xs
 all-both P Q R f [] h k = tt
 all-both P Q R f (x ∷ xs) h k = (f x (h .0) (k .0), all-both P Q R f xs (h .1) (k .1))
 
 -- what holds of each holds of the last and the first
-pub last-holds : (P : List ℕ → Type 0) (xs : List Pair) → 0 < length xs → All (λ (p : Pair). P (p .key)) xs → P (lastKey xs)
+pub last-holds : (P : List ℕ → Type 0) (xs : List Pair) → 0 < length xs → All (λ (p : Pair). P (p .key)) xs
+    → P (lastKey xs)
 last-holds P [] n h = let bad : ⊥ = omega arith in absurd bad
 last-holds P (x ∷ []) n h = h .0
 last-holds P (x ∷ y ∷ ys) n h = last-holds P (y ∷ ys) (omega arith) (h .1)
 
-pub first-holds : (P : List ℕ → Type 0) (xs : List Pair) → 0 < length xs → All (λ (p : Pair). P (p .key)) xs → P (firstKey xs)
+pub first-holds : (P : List ℕ → Type 0) (xs : List Pair) → 0 < length xs → All (λ (p : Pair). P (p .key)) xs
+    → P (firstKey xs)
 first-holds P [] n h = let bad : ⊥ = omega arith in absurd bad
 first-holds P (x ∷ xs) n h = h .0
 
@@ -57,7 +61,8 @@ under-le a b none p q = tt
 under-le a b (before s) p q = most-less a b s p q
 
 -- two parts of a leaf, neither empty, and the separator between them
-pub leaf-split : (lo : List ℕ) (hi : Bound) (xs ys : List Pair) → 0 < length xs → 0 < length ys → Strict zero lo hi (xs ++ ys)
+pub leaf-split : (lo : List ℕ) (hi : Bound) (xs ys : List Pair) → 0 < length xs → 0 < length ys
+    → Strict zero lo hi (xs ++ ys)
     → Below lo (separator (lastKey xs) (firstKey ys)) × Under (separator (lastKey xs) (firstKey ys)) hi × KeyFits (separator (lastKey xs) (firstKey ys))
     × Strict zero lo (before (separator (lastKey xs) (firstKey ys))) xs × Strict zero (separator (lastKey xs) (firstKey ys)) hi ys
 leaf-split lo hi xs ys n m h =
@@ -81,7 +86,8 @@ leaf-split lo hi xs ys n m h =
       (r .1, all-both _ _ _ (λ p b c. (most-trans s (firstKey ys) (p .key) upto c, b .1)) ys (w .1) (first-least ys (r .1)), f .1),
     )
 
-pub leaf-merge : (lo s : List ℕ) (hi : Bound) (xs ys : List Pair) → Below lo s → Under s hi → Strict zero lo (before s) xs → Strict zero s hi ys → Strict zero lo hi (xs ++ ys)
+pub leaf-merge : (lo s : List ℕ) (hi : Bound) (xs ys : List Pair) → Below lo s → Under s hi
+    → Strict zero lo (before s) xs → Strict zero s hi ys → Strict zero lo hi (xs ++ ys)
 leaf-merge lo s hi xs ys p q h k = (
   rising-append xs ys (h .0) (k .0) (all-weaker _ _ (λ x b. all-weaker _ _ (λ y d. less-most (x .key) s (y .key) (b .1) (d .0)) ys (k .1)) xs (h .1)),
   all-append _ xs ys (all-weaker _ _ (λ x b. (b .0, under-trans (x .key) s hi (b .1) q)) xs (h .1))

@@ -10,11 +10,11 @@ use Rattle.cuts.specs.Nodes.{Pair, Cell, Branch}
 use Rattle.cuts.specs.Cuts.{total}
 use Rattle.cuts.proofs.Order.{less-nil}
 use Rattle.tree.specs.Maps.{insert, delete}
-use Rattle.tree.specs.Trees.{branch, Tree, BTree, branchCost, underfull}
+use Rattle.tree.specs.Trees.{Tree, branchCost, underfull}
 use Rattle.tree.specs.Edits.{Grown, one, two, cutBranch, fit, place, placed, mended, join, edit}
-use Rattle.tree.specs.Sound.{Bound, none, Under, Light, Full, Forked, SoundTree}
+use Rattle.tree.specs.Sound.{Bound, none, Under, Light, Full, Forked}
 use Rattle.tree.specs.Search.{picked, childAt}
-use Rattle.tree.specs.Places.{separatorAt, splice, spliceTwo, joinAt, repairAt, mapCell, mapBranch, mapGrown}
+use Rattle.tree.specs.Places.{separatorAt, splice, joinAt, repairAt, mapCell, mapBranch, mapGrown}
 use Rattle.tree.specs.Counts.{sumOver, Marked, old, new, mark, markedStep, madeBelow, madeAtRoot, madeInPlaceOf, made}
 use Rattle.tree.specs.LawsOfSize.{MarkedStepsAreTheEdits, EditsMakeFewNodes}
 use Rattle.tree.proofs.Strict.{Strict, strict-tree}
@@ -58,7 +58,8 @@ module _ {X : Type 0} (under : X → Bool) (j : X → List ℕ → X → Grown X
   old-marks [] = refl
   old-marks (c ∷ cs) = let r = old-marks cs in omega arith
 
-  old-wants : (cs : List (Cell X)) → total (λ c. lacks (λ (m : Marked X). under (m .node)) (c .child)) (map (mapCell old) cs) ≡ total (λ c. lacks under (c .child)) cs
+  old-wants : (cs : List (Cell X))
+      → total (λ c. lacks (λ (m : Marked X). under (m .node)) (c .child)) (map (mapCell old) cs) ≡ total (λ c. lacks under (c .child)) cs
   unfolding total
   old-wants [] = refl
   old-wants (c ∷ cs) = let r = old-wants cs in omega arith
@@ -77,7 +78,8 @@ module _ {X : Type 0} (under : X → Bool) (j : X → List ℕ → X → Grown X
   abbrev node-joins : Marked X → List ℕ → Marked X → Grown (Marked X)
   node-joins l s r = mapGrown new (j (l .node) s (r .node))
 
-  join-new : (x y : X) (cs : List (Cell X)) (i : ℕ) → i ≤ length (map (mapCell old) cs) → 0 < length (map (mapCell old) cs)
+  join-new : (x y : X) (cs : List (Cell X)) (i : ℕ) → i ≤ length (map (mapCell old) cs)
+      → 0 < length (map (mapCell old) cs)
       → sumOver mark (joinAt node-joins i (new y) (old x) (map (mapCell old) cs)) ≤ 2
   join-new x y cs zero l n =
       let bs = map (mapCell old) cs in let z = old-marks cs in
@@ -88,7 +90,8 @@ module _ {X : Type 0} (under : X → Bool) (j : X → List ℕ → X → Grown X
       let g = j (childAt i (old x) bs .node) (separatorAt i bs) y in
       omega (arith, splice-two-sum mark i (mapGrown new g) (old x) bs l, new-mark g)
 
-  repair-new : (x : X) (cs : List (Cell X)) (i : ℕ) (g : Grown X) → i ≤ length (map (mapCell old) cs) → 0 < length (map (mapCell old) cs)
+  repair-new : (x : X) (cs : List (Cell X)) (i : ℕ) (g : Grown X) → i ≤ length (map (mapCell old) cs)
+      → 0 < length (map (mapCell old) cs)
       → sumOver mark (repairAt node-under node-joins i (mapGrown new g) (old x) (map (mapCell old) cs)) ≤ 2
   repair-new x cs i (one y) l n =
       let bs = map (mapCell old) cs in let z = old-marks cs in
@@ -99,7 +102,8 @@ module _ {X : Type 0} (under : X → Bool) (j : X → List ℕ → X → Grown X
       let z = old-marks cs in
       omega (arith, splice-sum mark i (two (new a) s (new b)) (old x) (map (mapCell old) cs) l)
 
-  pub two-new : (b : Branch X) → 0 < length (b .rest) → Settled under (e (childAt (picked k (b .rest)) (b .first) (b .rest))) → wants under (b .first) (b .rest) ≡ 0
+  pub two-new : (b : Branch X) → 0 < length (b .rest)
+      → Settled under (e (childAt (picked k (b .rest)) (b .first) (b .rest))) → wants under (b .first) (b .rest) ≡ 0
       → sumOver mark (markedStep under j e k b) ≤ 2
   two-new b n s w =
       let x = old (b .first) in let cs = map (mapCell old) (b .rest) in
@@ -111,7 +115,8 @@ module _ {X : Type 0} (under : X → Bool) (j : X → List ℕ → X → Grown X
       (repair-new (b .first) (b .rest) (picked k cs) (e (childAt (picked k cs) x cs .node)) (picked-within k cs) (omega arith))
 
 -- so an edit makes at most two nodes a level
-made-few : (e : List Pair → List Pair) (k : List ℕ) → Edits e k → (n : ℕ) (lo : List ℕ) (hi : Bound) (t : Tree n) → AtMost lo k → Under k hi → Forked n t → Light n (Strict n) lo hi t
+made-few : (e : List Pair → List Pair) (k : List ℕ) → Edits e k → (n : ℕ) (lo : List ℕ) (hi : Bound) (t : Tree n)
+    → AtMost lo k → Under k hi → Forked n t → Light n (Strict n) lo hi t
     → madeBelow e k n t ≤ 2 * n
 unfolding madeBelow
 made-few e k ed zero lo hi t p q f h = omega arith

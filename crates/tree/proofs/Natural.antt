@@ -2,16 +2,16 @@
 use Prim.Native.Nat.{ℕ, zero, suc, _+_}
 use mathlib.Core.Path.{_≡_, refl, sym, ap, _∙_}
 use mathlib.Core.List.{List, [], _∷_, _++_, map}
-use mathlib.Core.Bool.{Bool, true, false, cond, _||_}
+use mathlib.Core.Bool.{Bool, true, false, cond}
 use native.Mathlib.Omega.{arith}
-use lib.Dec.{ltb, leb}
-use lib.ListN.{length, take, drop}
+use lib.Dec.{leb}
+use lib.ListN.{take, drop}
 use Rattle.cuts.specs.Keys.{key<}
 use Rattle.cuts.specs.Nodes.{Cell, Branch, cellCost}
 use Rattle.cuts.specs.Cuts.{total, middle}
 use Rattle.cuts.specs.Sizes.{usable}
-use Rattle.tree.specs.Trees.{Tree, branchCost}
-use Rattle.tree.specs.Edits.{Grown, one, two, giveUp, cutBranch, fit, mergeBranches, inPlace, prepend, place, placed, mend, mended}
+use Rattle.tree.specs.Trees.{branchCost}
+use Rattle.tree.specs.Edits.{Grown, one, two, giveUp, cutBranch, fit, mergeBranches, inPlace, prepend, place, mend}
 use Rattle.tree.specs.Search.{picked, childAt}
 use Rattle.tree.specs.Places.{separatorAt, splice, spliceTwo, mapCell, mapBranch, mapGrown}
 use Rattle.tree.specs.Laws.{StepsCommute, StepsCommuteWithReading}
@@ -57,7 +57,8 @@ module _ {X Y : Type 0} (f : X → Y) where
   separator-at-map (suc i) (c ∷ cs) = separator-at-map i cs
 
   -- cut and join
-  give-up-map : (x : X) (bs cs : List (Cell X)) → mapGrown (mapBranch f) (giveUp x bs cs) ≡ giveUp (f x) (map (mapCell f) bs) (map (mapCell f) cs)
+  give-up-map : (x : X) (bs cs : List (Cell X))
+      → mapGrown (mapBranch f) (giveUp x bs cs) ≡ giveUp (f x) (map (mapCell f) bs) (map (mapCell f) cs)
   give-up-map x bs [] = refl
   give-up-map x bs (c ∷ cs) = refl
 
@@ -68,19 +69,24 @@ module _ {X Y : Type 0} (f : X → Y) where
       let i = middle cellCost (total cellCost (b .rest)) 0 (b .rest) in
       rw (t, m) (give-up-map (b .first) (take i (b .rest)) (drop i (b .rest)) ∙ (rw (take-map i (b .rest), drop-map i (b .rest))))
 
-  pub fit-map : (b : Branch X) → mapGrown (mapBranch f) (fit branchCost cutBranch b) ≡ fit branchCost cutBranch (mapBranch f b)
+  pub fit-map : (b : Branch X)
+      → mapGrown (mapBranch f) (fit branchCost cutBranch b) ≡ fit branchCost cutBranch (mapBranch f b)
   unfolding fit
-  fit-map b = by (leb (branchCost b) usable) ∙ ap (λ n. cond (leb n usable) (one (mapBranch f b)) (cutBranch (mapBranch f b))) (sym (total-map (b .rest)))
+  fit-map b =
+      by (leb (branchCost b) usable) ∙ ap (λ n. cond (leb n usable) (one (mapBranch f b)) (cutBranch (mapBranch f b))) (sym (total-map (b .rest)))
     where
-      by : (t : Bool) → mapGrown (mapBranch f) (cond t (one b) (cutBranch b)) ≡ cond t (one (mapBranch f b)) (cutBranch (mapBranch f b))
+      by : (t : Bool)
+          → mapGrown (mapBranch f) (cond t (one b) (cutBranch b)) ≡ cond t (one (mapBranch f b)) (cutBranch (mapBranch f b))
       by true = refl
       by false = cut-map b
 
-  pub merge-map : (l : Branch X) (s : List ℕ) (r : Branch X) → mapBranch f (mergeBranches l s r) ≡ mergeBranches (mapBranch f l) s (mapBranch f r)
+  pub merge-map : (l : Branch X) (s : List ℕ) (r : Branch X)
+      → mapBranch f (mergeBranches l s r) ≡ mergeBranches (mapBranch f l) s (mapBranch f r)
   merge-map l s r = rw append-map
 
   -- place and mend
-  pub in-place-map : (g : Grown X) (cs : List (Cell X)) → mapBranch f (inPlace g cs) ≡ inPlace (mapGrown f g) (map (mapCell f) cs)
+  pub in-place-map : (g : Grown X) (cs : List (Cell X))
+      → mapBranch f (inPlace g cs) ≡ inPlace (mapGrown f g) (map (mapCell f) cs)
   in-place-map (one x) cs = refl
   in-place-map (two l s r) cs = refl
 
@@ -109,12 +115,14 @@ module _ {X Y : Type 0} (f : X → Y) where
       grind arith
 
   -- by place
-  pub splice-map : (i : ℕ) (g : Grown X) (x : X) (cs : List (Cell X)) → mapBranch f (splice i g x cs) ≡ splice i (mapGrown f g) (f x) (map (mapCell f) cs)
+  pub splice-map : (i : ℕ) (g : Grown X) (x : X) (cs : List (Cell X))
+      → mapBranch f (splice i g x cs) ≡ splice i (mapGrown f g) (f x) (map (mapCell f) cs)
   splice-map zero g x cs = in-place-map g cs
   splice-map (suc i) g x [] = refl
   splice-map (suc i) g x (c ∷ cs) = ap (prepend (f x) (c .separator)) (splice-map i g (c .child) cs)
 
-  pub splice-two-map : (i : ℕ) (g : Grown X) (x : X) (cs : List (Cell X)) → mapBranch f (spliceTwo i g x cs) ≡ spliceTwo i (mapGrown f g) (f x) (map (mapCell f) cs)
+  pub splice-two-map : (i : ℕ) (g : Grown X) (x : X) (cs : List (Cell X))
+      → mapBranch f (spliceTwo i g x cs) ≡ spliceTwo i (mapGrown f g) (f x) (map (mapCell f) cs)
   splice-two-map i g x [] = refl
   splice-two-map zero g x (c ∷ cs) = in-place-map g cs
   splice-two-map (suc i) g x (c ∷ cs) = ap (prepend (f x) (c .separator)) (splice-two-map i g (c .child) cs)

@@ -1,16 +1,15 @@
 -- Sound trees with strict bounds: a branch's first separator is above its lower bound, and not only at least there.
 -- The proofs work on these. Every sound tree is one, because no leaf under a branch is empty.
-use Prim.Native.Nat.{ℕ, zero, suc, _<_, _≤_}
-use mathlib.Core.List.{List, [], _∷_, _++_}
+use Prim.Native.Nat.{ℕ, zero, suc}
+use mathlib.Core.List.{List, [], _∷_}
 use native.Mathlib.Omega.{arith}
 use Rattle.std.specs.shelf.Lists.{All}
-use Rattle.std.proofs.shelf.Elements.{all-weaker}
-use Rattle.cuts.specs.Keys.{Below, AtMost}
-use Rattle.cuts.specs.Nodes.{Pair, Cell, PairFits, CellFits}
+use Rattle.cuts.specs.Keys.{Below}
+use Rattle.cuts.specs.Nodes.{Cell, PairFits, CellFits}
 use Rattle.cuts.specs.Cuts.{total}
 use Rattle.cuts.proofs.Order.{less-trans, most-less, most-from-less}
 use Rattle.tree.specs.Maps.{Rising}
-use Rattle.tree.specs.Trees.{Tree, BTree, pairs, across}
+use Rattle.tree.specs.Trees.{Tree, BTree}
 use Rattle.tree.specs.Sound.{Bound, none, before, Under, Within, top, Rest, Spans, Light, Full, Sound, Forked, SoundTree}
 
 pub under-trans : (a b : List ℕ) (hi : Bound) → Below a b → Under b hi → Under a hi
@@ -20,7 +19,8 @@ under-trans a b (before s) p q = less-trans a b s p q
 -- separators rise from above lo to under hi, and S holds of each child between the separators around it
 abbrev pub Rises : {X : Type 0} → (List ℕ → Bound → X → Type 0) → List ℕ → Bound → List (Cell X) → Type 0
 Rises S lo hi [] = Unit {0}
-Rises S lo hi (c ∷ cs) = Below lo (c .separator) × Under (c .separator) hi × S (c .separator) (top hi cs) (c .child) × Rises S (c .separator) hi cs
+Rises S lo hi (c ∷ cs) =
+    Below lo (c .separator) × Under (c .separator) hi × S (c .separator) (top hi cs) (c .child) × Rises S (c .separator) hi cs
 
 abbrev pub Ranges : {X : Type 0} → (List ℕ → Bound → X → Type 0) → List ℕ → Bound → X → List (Cell X) → Type 0
 Ranges S lo hi x cs = S lo (top hi cs) x × Rises S lo hi cs
@@ -37,7 +37,8 @@ abbrev pub StrictTree : BTree → Type 0
 StrictTree b = Light (b .height) (Strict (b .height)) [] none (b .root) × Forked (b .height) (b .root)
 
 -- a key below the next separator is below all that follow
-under-top : {X : Type 0} (S : List ℕ → Bound → X → Type 0) (s : List ℕ) (hi : Bound) (cs : List (Cell X)) → Under s (top hi cs) → Rest S s hi cs → Under s hi
+under-top : {X : Type 0} (S : List ℕ → Bound → X → Type 0) (s : List ℕ) (hi : Bound) (cs : List (Cell X))
+    → Under s (top hi cs) → Rest S s hi cs → Under s hi
 under-top S s hi [] p h = p
 under-top S s hi (c ∷ cs) p h = under-trans s (c .separator) hi p (under-top S (c .separator) hi cs (h .1) (h .3))
 
@@ -79,10 +80,12 @@ sound-from-strict (suc n) lo hi t h =
     ((f _ _ _ (h .0 .0), rises-rest (Full n (Strict n)) (Full n (Sound n)) f lo hi (t .rest) (h .0 .1)), h .1)
 
 -- a node that is not underfull has a key from its lower bound on
-spans-gap : {X : Type 0} (S : List ℕ → Bound → X → Type 0) (lo s : List ℕ) (x : X) (cs : List (Cell X)) → ((r : List ℕ) → S lo (before r) x → Below lo r)
+spans-gap : {X : Type 0} (S : List ℕ → Bound → X → Type 0) (lo s : List ℕ) (x : X) (cs : List (Cell X))
+    → ((r : List ℕ) → S lo (before r) x → Below lo r)
     → Spans S lo (before s) x cs → Below lo s
 spans-gap S lo s x [] g h = g s (h .0)
-spans-gap S lo s x (c ∷ cs) g h = less-trans lo (c .separator) s (g (c .separator) (h .0)) (under-top S (c .separator) (before s) cs (h .1 .1) (h .1 .3))
+spans-gap S lo s x (c ∷ cs) g h =
+    less-trans lo (c .separator) s (g (c .separator) (h .0)) (under-top S (c .separator) (before s) cs (h .1 .1) (h .1 .3))
 
 gap : (n : ℕ) (lo s : List ℕ) (t : Tree n) → Full n (Sound n) lo (before s) t → Below lo s
 unfolding total

@@ -1,8 +1,7 @@
 -- Branches of a sound tree are wide, and so it is low.
-use Prim.Native.Nat.{ℕ, zero, suc, _+_, _*_, _^_, _<_, _≤_}
-use mathlib.Core.Path.{_≡_, refl}
+use Prim.Native.Nat.{ℕ, zero, suc, _+_, _*_, _^_, _≤_}
 use mathlib.Core.List.{List, [], _∷_}
-use mathlib.Core.Logic.{_⊎_, inl, inr}
+use mathlib.Core.Logic.{inl, inr}
 use native.Mathlib.Omega.{arith}
 use native.Mathlib.Nat.{pow-suc, pow-le-pow-right}
 use lib.ListN.{length}
@@ -12,13 +11,14 @@ use Rattle.cuts.specs.Nodes.{Cell, cellCost}
 use Rattle.cuts.specs.Cuts.{total}
 use Rattle.cuts.specs.Sizes.{quarter, largestCell}
 use Rattle.cuts.proofs.Balance.{two-cells, cells-small}
-use Rattle.tree.specs.Trees.{branch, Tree, BTree}
-use Rattle.tree.specs.Sound.{Bound, none, Full, Forked, SoundTree}
+use Rattle.tree.specs.Trees.{branch, Tree}
+use Rattle.tree.specs.Sound.{Bound, none, Full, Forked}
 use Rattle.tree.specs.Counts.{sumOver, nodes, EachChild, Wide, WideBelow}
 use Rattle.tree.specs.LawsOfSize.{BranchesAreWide, SoundTreesAreLow}
 use Rattle.tree.proofs.Strict.{Rises, Strict, strict-tree}
 
-rises-each : {X : Type 0} (S : List ℕ → Bound → X → Type 0) (P : X → Type 0) → ((lo : List ℕ) (hi : Bound) (x : X) → S lo hi x → P x)
+rises-each : {X : Type 0} (S : List ℕ → Bound → X → Type 0) (P : X → Type 0)
+    → ((lo : List ℕ) (hi : Bound) (x : X) → S lo hi x → P x)
     → (lo : List ℕ) (hi : Bound) (cs : List (Cell X)) → Rises S lo hi cs → All (λ c. P (c .child)) cs
 rises-each S P f lo hi [] h = tt
 rises-each S P f lo hi (c ∷ cs) h = (f _ _ _ (h .2), rises-each S P f (c .separator) hi cs (h .3))
@@ -34,11 +34,14 @@ branches-are-wide b h = by (b .height) (b .root) (strict-tree b h .0 .1) (h .1)
   where
     by : (n : ℕ) (t : Tree n) → Strict n [] none t → Forked n t → WideBelow n t
     by zero t s f = tt
-    by (suc n) t s f = (omega arith, (wide n _ _ _ (s .0 .0), rises-each (Full n (Strict n)) (Wide n) (wide n) [] none (t .rest) (s .0 .1)))
+    by (suc n) t s f =
+        (omega arith, (wide n _ _ _ (s .0 .0), rises-each (Full n (Strict n)) (Wide n) (wide n) [] none (t .rest) (s .0 .1)))
 
 -- how many nodes that makes
-three-nodes : (n : ℕ) (x : Tree n) (cs : List (Cell (Tree n))) → ((t : Tree n) → Wide n t → 3 ^ suc n ≤ 2 * nodes n t + 1)
-    → 3 ≤ suc (length cs) → EachChild (Wide n) (branch x cs) → 3 ^ suc (suc n) ≤ 2 * suc (sumOver (nodes n) (branch x cs)) + 1
+three-nodes : (n : ℕ) (x : Tree n) (cs : List (Cell (Tree n)))
+    → ((t : Tree n) → Wide n t → 3 ^ suc n ≤ 2 * nodes n t + 1)
+    → 3 ≤ suc (length cs) → EachChild (Wide n) (branch x cs)
+    → 3 ^ suc (suc n) ≤ 2 * suc (sumOver (nodes n) (branch x cs)) + 1
 unfolding total
 three-nodes n x [] f l w = let bad : ⊥ = omega arith in absurd bad
 three-nodes n x (c ∷ []) f l w = let bad : ⊥ = omega arith in absurd bad
@@ -54,7 +57,8 @@ unfolding total
 root-nodes zero t h = omega arith
 root-nodes (suc n) t h = by (t .first) (t .rest) (h .0) (h .1)
   where
-    by : (x : Tree n) (cs : List (Cell (Tree n))) → 2 ≤ suc (length cs) → EachChild (Wide n) (branch x cs) → 3 ^ suc n ≤ suc (sumOver (nodes n) (branch x cs))
+    by : (x : Tree n) (cs : List (Cell (Tree n))) → 2 ≤ suc (length cs) → EachChild (Wide n) (branch x cs)
+        → 3 ^ suc n ≤ suc (sumOver (nodes n) (branch x cs))
     by x [] l w = let bad : ⊥ = omega arith in absurd bad
     by x (c ∷ cs) l w = omega (arith, wide-nodes n x (w .0), wide-nodes n (c .child) (w .1 .0))
 

@@ -6,7 +6,6 @@ use lib.ListN.{length}
 use Rattle.std.specs.shelf.Lists.{All}
 use Rattle.cuts.specs.Nodes.{Pair, Cell, Branch}
 use Rattle.cuts.specs.Cuts.{total}
-use Rattle.tree.specs.Maps.{insert, delete}
 use Rattle.tree.specs.Trees.{Tree, BTree, underfull}
 use Rattle.tree.specs.Edits.{Grown, one, two, placed, mended, join, edit}
 use Rattle.tree.specs.Search.{picked, childAt}
@@ -36,7 +35,8 @@ old x = record { node = x; isNew = false }
 abbrev pub new : {X : Type 0} → X → Marked X
 new x = record { node = x; isNew = true }
 
-abbrev pub markedStep : {X : Type 0} → (X → Bool) → (X → List ℕ → X → Grown X) → (X → Grown X) → List ℕ → Branch X → Branch (Marked X)
+abbrev pub markedStep : {X : Type 0} → (X → Bool) → (X → List ℕ → X → Grown X) → (X → Grown X) → List ℕ → Branch X
+    → Branch (Marked X)
 markedStep under joins e k b =
     mended (λ m. under (m .node)) (λ l s r. mapGrown new (joins (l .node) s (r .node)))
     (placed (λ m. mapGrown new (e (m .node))) k (mapBranch old b))
@@ -49,7 +49,8 @@ mark m = cond (m .isNew) 1 0
 unfoldable pub madeBelow : (List Pair → List Pair) → List ℕ → (n : ℕ) → Tree n → ℕ
 madeBelow e k zero t = 0
 madeBelow e k (suc n) t =
-    sumOver mark (markedStep (underfull n) (join n) (edit e k n) k t) + madeBelow e k n (childAt (picked k (t .rest)) (t .first) (t .rest))
+    sumOver mark (markedStep (underfull n) (join n) (edit e k n) k t)
+    + madeBelow e k n (childAt (picked k (t .rest)) (t .first) (t .rest))
 
 -- the nodes that take the root's place: two with a new root above them, one, or none if it gives way to its child
 abbrev pub madeInPlaceOf : {X : Type 0} → List (Cell X) → ℕ

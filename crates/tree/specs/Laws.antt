@@ -72,13 +72,15 @@ EditsGoByPlace = (n : ℕ) (lo : List ℕ) (hi : Bound) (t : Tree (suc n)) → L
 
 -- the steps at a branch commute with a function f of the children
 pub record StepsCommute {X Y : Type 0} (f : X → Y) : Type 0 where
-  pub fitting : (b : Branch X) → mapGrown (mapBranch f) (fit branchCost cutBranch b) ≡ fit branchCost cutBranch (mapBranch f b)
+  pub fitting : (b : Branch X)
+      → mapGrown (mapBranch f) (fit branchCost cutBranch b) ≡ fit branchCost cutBranch (mapBranch f b)
   pub merging : (l : Branch X) (s : List ℕ) (r : Branch X)
       → mapBranch f (mergeBranches l s r) ≡ mergeBranches (mapBranch f l) s (mapBranch f r)
   pub placing : (e : X → Grown X) (e′ : Y → Grown Y) (k : List ℕ) → ((x : X) → mapGrown f (e x) ≡ e′ (f x))
       → (b : Branch X) → mapBranch f (placed e k b) ≡ placed e′ k (mapBranch f b)
   pub mending : (under : X → Bool) (under′ : Y → Bool) (joins : X → List ℕ → X → Grown X) (joins′ : Y → List ℕ → Y → Grown Y)
-      → ((x : X) → under x ≡ under′ (f x)) → ((l : X) (s : List ℕ) (r : X) → mapGrown f (joins l s r) ≡ joins′ (f l) s (f r))
+      → ((x : X) → under x ≡ under′ (f x))
+      → ((l : X) (s : List ℕ) (r : X) → mapGrown f (joins l s r) ≡ joins′ (f l) s (f r))
       → (b : Branch X) → mapBranch f (mended under joins b) ≡ mended under′ joins′ (mapBranch f b)
   pub picking : (k : List ℕ) (b : Branch X) → picked k (mapBranch f b .rest) ≡ picked k (b .rest)
   pub descending : (i : ℕ) (b : Branch X)

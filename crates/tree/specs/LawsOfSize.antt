@@ -15,7 +15,8 @@ use Rattle.tree.specs.Counts.{nodesOf, markedStep, made, WideBelow}
 -- the step with marks is the edit's own
 abbrev pub MarkedStepsAreTheEdits : Type 0
 MarkedStepsAreTheEdits = (e : List Pair → List Pair) (k : List ℕ) (n : ℕ) (t : Tree (suc n))
-    → fit branchCost cutBranch (mapBranch (λ m. m .node) (markedStep (underfull n) (join n) (edit e k n) k t)) ≡ edit e k (suc n) t
+    → fit branchCost cutBranch (mapBranch (λ m. m .node) (markedStep (underfull n) (join n) (edit e k n) k t))
+    ≡ edit e k (suc n) t
 
 -- at most two new nodes a level, and three at the root
 abbrev pub EditsMakeFewNodes : Type 0

@@ -32,7 +32,8 @@ joinAt joins zero y x cs = spliceTwo 0 (joins y (separatorAt 0 cs) (childAt 1 x 
 joinAt joins (suc i) y x cs = spliceTwo i (joins (childAt i x cs) (separatorAt i cs) y) x cs
 
 -- g in place of child i, joined with a neighbour if it is one node and underfull
-abbrev pub repairAt : {X : Type 0} → (X → Bool) → (X → List ℕ → X → Grown X) → ℕ → Grown X → X → List (Cell X) → Branch X
+abbrev pub repairAt : {X : Type 0} → (X → Bool) → (X → List ℕ → X → Grown X) → ℕ → Grown X → X → List (Cell X)
+    → Branch X
 repairAt under joins i (one y) x cs = cond (under y) (joinAt joins i y x cs) (splice i (one y) x cs)
 repairAt under joins i (two l s r) x cs = splice i (two l s r) x cs
 
@@ -40,7 +41,8 @@ repairAt under joins i (two l s r) x cs = splice i (two l s r) x cs
 abbrev pub editByPlace : (List Pair → List Pair) → List ℕ → (n : ℕ) → Tree (suc n) → Grown (Tree (suc n))
 editByPlace e k n t =
     let i = picked k (t .rest) in
-    fit branchCost cutBranch (repairAt (underfull n) (join n) i (edit e k n (childAt i (t .first) (t .rest))) (t .first) (t .rest))
+    let g = edit e k n (childAt i (t .first) (t .rest)) in
+    fit branchCost cutBranch (repairAt (underfull n) (join n) i g (t .first) (t .rest))
 
 -- through a function of the children
 abbrev pub mapCell : {X Y : Type 0} → (X → Y) → Cell X → Cell Y

@@ -38,7 +38,8 @@ abbrev pub after : (n : ℕ) → Tree n → List ℕ → Option Pair
 after zero t k = firstAbove k t
 after (suc n) t k =
     let i = picked k (t .rest) in
-    orElse (after n (childAt i (t .first) (t .rest)) k) (cond (ltb i (length (t .rest))) (after n (childAt (suc i) (t .first) (t .rest)) k) None)
+    let child : ℕ → Tree n = λ j. childAt j (t .first) (t .rest) in
+    orElse (after n (child i) k) (cond (ltb i (length (t .rest))) (after n (child (suc i)) k) None)
 
 abbrev pub next : BTree → List ℕ → Option Pair
 next b k = after (b .height) (b .root) k

@@ -31,7 +31,8 @@ top hi (c ∷ cs) = before (c .separator)
 -- separators around it; the leftmost child inherits lo, and the last one hi.
 abbrev pub Rest : {X : Type 0} → (List ℕ → Bound → X → Type 0) → List ℕ → Bound → List (Cell X) → Type 0
 Rest S lo hi [] = Unit {0}
-Rest S lo hi (c ∷ cs) = AtMost lo (c .separator) × Under (c .separator) (top hi cs) × S (c .separator) (top hi cs) (c .child) × Rest S (c .separator) hi cs
+Rest S lo hi (c ∷ cs) =
+    AtMost lo (c .separator) × Under (c .separator) (top hi cs) × S (c .separator) (top hi cs) (c .child) × Rest S (c .separator) hi cs
 
 abbrev pub Spans : {X : Type 0} → (List ℕ → Bound → X → Type 0) → List ℕ → Bound → X → List (Cell X) → Type 0
 Spans S lo hi x cs = S lo (top hi cs) x × Rest S lo hi cs
