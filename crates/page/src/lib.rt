@@ -6,6 +6,7 @@ mod draft;
 mod edit;
 mod fault;
 mod grown;
+mod known;
 mod leaf;
 mod search;
 mod short;

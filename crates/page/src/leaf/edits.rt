@@ -29,7 +29,7 @@ use crate::splice::Splice;
 use cuts::separator_len;
 
 // The leaf of the cells from one place up to another.
-fn leaf_part(list: &Splice, from: usize, to: usize) -> LeafPage
+pub(crate) fn leaf_part(list: &Splice, from: usize, to: usize) -> LeafPage
     requires spliced { ⌜ Spliced 1 (now list) ⌝ }
     requires goods { ⌜ every leafGood (cellsIn (now list)) ≡ true ⌝ }
     requires rises { ⌜ rising leafKey (cellsIn (now list)) ≡ true ⌝ }
@@ -71,7 +71,7 @@ fn cut_separator(list: &Splice, at: usize) -> Short
 }
 
 // The cells as one leaf, or as two where they are too many for one.
-fn fit(list: &Splice) -> Grown<LeafPage>
+pub(crate) fn fit(list: &Splice) -> Grown<LeafPage>
     requires spliced { ⌜ Spliced 1 (now list) ⌝ }
     requires goods { ⌜ every leafGood (cellsIn (now list)) ≡ true ⌝ }
     requires rises { ⌜ rising leafKey (cellsIn (now list)) ≡ true ⌝ }
