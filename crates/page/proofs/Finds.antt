@@ -43,7 +43,7 @@ module _ (k : List ℕ) (xs : List (List ℕ)) (asc : rising leafKey xs ≡ true
   below-differs a j e l n q =
       ⊎-elim
       (λ lt. both-ways (key< k (leafKey (getD xs (a - 1) []))) (upTo-front leafKey k xs (a - 1) (omega arith))
-        (ap (λ z. key< z (leafKey (getD xs (a - 1) []))) (sym q) ∙ rises leafKey xs j (a - 1) asc lt (omega (arith, upTo-length leafKey k xs))))
+      (ap (λ z. key< z (leafKey (getD xs (a - 1) []))) (sym q) ∙ rises leafKey xs j (a - 1) asc lt (omega (arith, upTo-length leafKey k xs))))
       (λ le. let m : j ≡ a - 1 = omega arith in n (ap (λ i. leafKey (getD xs i [])) (sym m) ∙ q))
       (cases-lt j (a - 1))
 

@@ -13,3 +13,5 @@ pub mod Parts
 pub mod Leaves
 pub mod Fits
 pub mod Finds
+pub mod Puts
+pub mod OnePage
