@@ -1,0 +1,46 @@
+-- The medium that a cache is. In these, f gives the copy that the cache has of each page, m is the medium of the
+-- device below, and `off` is what the cache knows of the device's power.
+use Prim.Native.Nat.{ℕ, _<_}
+use mathlib.Core.Path.{_≡_}
+use mathlib.Core.Bool.{Bool, true, false, _||_}
+use mathlib.Core.List.{List}
+use Rattle.std.specs.Options.{isSome}
+use Rattle.std.specs.declared.option.Option.{Option}
+use Rattle.std.specs.declared.option.Option.the-variants.{Some, None}
+use Rattle.device.specs.Medium.{Medium}
+use Rattle.device.specs.History.{History}
+use Rattle.cache.specs.declared.copy.Copied.{Copied}
+use Rattle.cache.specs.declared.slots.Slots.{Slots}
+use Rattle.cache.specs.Held.{isChanged, copyOf, holds}
+
+-- the bytes of the copy, or where there is none, those below
+abbrev pub shown : Option Copied → List ℕ → List ℕ
+shown None b = b
+shown (Some c) b = c .bytes
+
+-- a page has the bytes of its copy, and is volatile if the copy was changed, or if it is volatile below
+abbrev pub over : (ℕ → Option Copied) → Medium → Medium
+over f m =
+    record { size = m .size; bytes = λ p. shown (f p) (m .bytes p); volatile = λ p. isChanged (f p) || m .volatile p; on = m .on }
+
+-- What the calls that led here have made true: a copy that was not changed is the page below, each copy is of a
+-- page of the device, and the cache knows whether the device is off. A device with no pages does not tell that
+-- to a read: the cache may take it to be on, and learns better at a sync.
+pub record Agrees (f : ℕ → Option Copied) (off : Bool) (m : Medium) : Type 0 where
+  pub same : (p : ℕ) → isSome (f p) ≡ true → isChanged (f p) ≡ false → shown (f p) (m .bytes p) ≡ m .bytes p
+  pub within : (p : ℕ) → isSome (f p) ≡ true → p < m .size
+  pub knows-off : off ≡ true → m .on ≡ false
+  pub knows-on : off ≡ false → 0 < m .size → m .on ≡ true
+
+abbrev pub cacheMedium : Slots → Medium → Medium
+cacheMedium s m = over (copyOf (s .pages)) m
+
+-- P are the histories that may have led to the device below: one of them did, and the cache agrees with it
+pub record Stands (P : History → Type 0) (s : Slots) (off : Bool) (m : Medium) : Type 0 where
+  pub led : History
+  pub past : P led
+  pub agrees : Agrees (copyOf (s .pages)) off m
+
+-- Any history may have led to a cache that stands.
+abbrev pub cachePast : (History → Type 0) → Slots → Bool → Medium → History → Type 0
+cachePast P s off m h = Stands P s off m

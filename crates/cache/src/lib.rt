@@ -1,0 +1,5 @@
+mod cache;
+mod copy;
+mod slots;
+
+pub use cache::Cache;
