@@ -9,11 +9,11 @@ use lib.Dec.{eqb}
 use lib.ListN.{length, getD, set, drop}
 use Rattle.std.proofs.shelf.Ways.{tells}
 use Rattle.std.proofs.shelf.Lists.{getD-set-same, drop-more}
-use Rattle.std.proofs.shelf.Tests.{cases-bool, cond-true, cond-false, eq-eqb, ne-eqb, eqb-true}
+use Rattle.std.proofs.shelf.Tests.{cases-bool, cases-eq, cond-true, cond-false, eq-eqb, ne-eqb, eqb-true}
 use Rattle.std.specs.declared.option.Option.{Option}
 use Rattle.std.specs.declared.option.Option.the-variants.{Some, None}
 use Rattle.cache.specs.declared.copy.Copied.{Copied}
-use Rattle.cache.specs.Held.{has, copyOf, copies, Distinct, slotAt, Replaces}
+use Rattle.cache.specs.Held.{has, copyOf, copies, Distinct, lengthOf, slotAt, Replaces}
 
 one-true : (b : Bool) → b ≡ true → _≡_ {A = ℕ} (cond b 1 0) 1
 one-true b e = cond-true {A = ℕ} b 1 0 e
@@ -87,6 +87,13 @@ replaces-set ss i c l d a = record {
      let w = one-false (eqb (c .page) p) (ne-eqb (c .page) p (λ e. n (sym e))) in omega arith);
   others = λ p n h. copy-set-other ss i p (Some c) (ne-eqb (c .page) p (λ e. n (sym e))) h;
 }
+
+pub sized-set : (c : Copied) (o : Option Copied) (f g : ℕ → Option Copied) → Replaces o c f g → length (c .bytes) ≡ 512
+  → ((p : ℕ) → lengthOf (f p) ≡ 512) → (p : ℕ) → lengthOf (g p) ≡ 512
+sized-set c o f g r l h p = ⊎-elim
+    (λ e. rw e (rw (r .new) l))
+    (λ e. ⊎-elim (λ t. rw (r .gone p e t)) (λ t. rw (r .others p e t) (h p)) (cases-bool (has o p)))
+    (cases-eq p (c .page))
 
 -- one step of a search: a slot that has another page, or none
 pub search-more : (ss : List (Option Copied)) (i p : ℕ) → i < length ss → has (slotAt ss i) p ≡ false

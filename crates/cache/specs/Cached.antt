@@ -10,8 +10,8 @@ use Rattle.std.specs.declared.option.Option.the-variants.{Some, None}
 use Rattle.device.specs.Medium.{Medium}
 use Rattle.device.specs.History.{History}
 use Rattle.cache.specs.declared.copy.Copied.{Copied}
-use Rattle.cache.specs.declared.slots.Slots.{Slots}
-use Rattle.cache.specs.Held.{isChanged, copyOf, holds}
+use Rattle.cache.specs.declared.cache.Cache.{Cache}
+use Rattle.cache.specs.Held.{isChanged, copyOf}
 
 -- the bytes of the copy, or where there is none, those below
 abbrev pub shown : Option Copied → List ℕ → List ℕ
@@ -32,15 +32,19 @@ pub record Agrees (f : ℕ → Option Copied) (off : Bool) (m : Medium) : Type 0
   pub knows-off : off ≡ true → m .on ≡ false
   pub knows-on : off ≡ false → 0 < m .size → m .on ≡ true
 
-abbrev pub cacheMedium : Slots → Medium → Medium
-cacheMedium s m = over (copyOf (s .pages)) m
+-- A cache over a device of type B, whose medium and whose past are given.
+abbrev pub copiesOf : {B : Type 0} → Cache B → ℕ → Option Copied
+copiesOf c = copyOf (c .slots .pages)
 
--- P are the histories that may have led to the device below: one of them did, and the cache agrees with it
-pub record Stands (P : History → Type 0) (s : Slots) (off : Bool) (m : Medium) : Type 0 where
+abbrev pub cacheMedium : {B : Type 0} → (B → Medium) → Cache B → Medium
+cacheMedium medium c = over (copiesOf c) (medium (c .below))
+
+-- some history led to the device below, and the cache agrees with it
+pub record Stands {B : Type 0} (past : B → History → Type 0) (medium : B → Medium) (c : Cache B) : Type 0 where
   pub led : History
-  pub past : P led
-  pub agrees : Agrees (copyOf (s .pages)) off m
+  pub is-past : past (c .below) led
+  pub agrees : Agrees (copiesOf c) (c .off) (medium (c .below))
 
 -- Any history may have led to a cache that stands.
-abbrev pub cachePast : (History → Type 0) → Slots → Bool → Medium → History → Type 0
-cachePast P s off m h = Stands P s off m
+abbrev pub cachePast : {B : Type 0} → (B → History → Type 0) → (B → Medium) → Cache B → History → Type 0
+cachePast past medium c h = Stands past medium c

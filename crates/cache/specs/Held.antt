@@ -2,6 +2,7 @@
 use Prim.Native.Nat.{ℕ, _+_, _<_, _≤_}
 use mathlib.Core.Path.{_≡_}
 use mathlib.Core.Bool.{Bool, true, false, cond}
+use mathlib.Core.Logic.{_⊎_}
 use mathlib.Core.List.{List, [], _∷_}
 use lib.Dec.{eqb}
 use lib.ListN.{length, getD}
@@ -37,6 +38,14 @@ copies (s ∷ ss) p = cond (has s p) 1 0 + copies ss p
 abbrev pub Distinct : List (Option Copied) → Type 0
 Distinct ss = (p : ℕ) → copies ss p ≤ 1
 
+-- each copy holds 512 bytes
+abbrev pub lengthOf : Option Copied → ℕ
+lengthOf None = 512
+lengthOf (Some c) = length (c .bytes)
+
+abbrev pub Sized : List (Option Copied) → Type 0
+Sized ss = (p : ℕ) → lengthOf (copyOf ss p) ≡ 512
+
 abbrev pub slotAt : List (Option Copied) → ℕ → Option Copied
 slotAt ss i = getD ss i None
 
@@ -56,3 +65,12 @@ pub record Replaces (o : Option Copied) (c : Copied) (f g : ℕ → Option Copie
   pub new : g (c .page) ≡ Some c
   pub gone : (p : ℕ) → (p ≡ c .page → ⊥) → has o p ≡ true → g p ≡ None
   pub others : (p : ℕ) → (p ≡ c .page → ⊥) → has o p ≡ false → g p ≡ f p
+
+-- a slot whose page was written below
+abbrev pub cleaned : Option Copied → Option Copied
+cleaned None = None
+cleaned (Some c) = Some (record { page = c .page; changed = false; bytes = c .bytes })
+
+-- A slot is empty, or no copy was changed: then a page can be taken in with no write below.
+abbrev pub Roomy : List (Option Copied) → Type 0
+Roomy ss = (Full ss → ⊥) ⊎ ((i : ℕ) → isChanged (slotAt ss i) ≡ false)

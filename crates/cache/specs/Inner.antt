@@ -1,20 +1,26 @@
 -- What the steps do of which the cache's calls are made.
-use Prim.Native.Nat.{ℕ, _<_}
+use Prim.Native.Nat.{ℕ, _<_, _≤_}
 use mathlib.Core.Path.{_≡_}
 use mathlib.Core.Bool.{Bool, true, false, _||_, cond}
 use mathlib.Core.List.{List}
+use lib.Dec.{ltb}
 use lib.ListN.{length, set}
+use mathlib.Core.Logic.{_⊎_}
+use Rattle.std.specs.Options.{isSome}
 use Rattle.std.specs.Results.{isOk}
 use Rattle.std.specs.declared.option.Option.{Option}
 use Rattle.std.specs.declared.option.Option.the-variants.{Some, None}
 use Rattle.std.specs.declared.result.Result.{Result}
 use Rattle.std.specs.declared.result.Result.the-variants.{Ok, Err}
 use Rattle.device.specs.Medium.{Medium}
+use Rattle.device.specs.History.{History, Event, Happens}
 use Rattle.device.specs.Calls.{Keeps, IsOff}
 use Rattle.device.specs.declared.fault.DeviceFault.{DeviceFault}
 use Rattle.device.specs.declared.fault.DeviceFault.the-variants.{Outside, Off}
 use Rattle.cache.specs.declared.copy.Copied.{Copied}
-use Rattle.cache.specs.Held.{isChanged, slotAt}
+use Rattle.cache.specs.declared.cache.Cache.{Cache}
+use Rattle.cache.specs.Held.{has, isChanged, copyOf, holds, copies, slotAt, Full, Roomy, cleaned}
+use Rattle.cache.specs.Cached.{Stands, cacheMedium}
 
 -- the device says that it is off
 abbrev pub saysOff : Result Unit DeviceFault → Bool
@@ -22,10 +28,9 @@ saysOff (Ok _) = false
 saysOff (Err Outside) = false
 saysOff (Err Off) = true
 
--- a slot whose page was written below
-abbrev pub cleaned : Option Copied → Option Copied
-cleaned None = None
-cleaned (Some c) = Some (record { page = c .page; changed = false; bytes = c .bytes; sized = c .sized })
+-- a page outside the device is refused before all else, and then every page if the device is off
+abbrev pub admitted : ℕ → Bool → ℕ → Result Unit DeviceFault
+admitted size off p = cond (ltb p size) (cond off (Err Off) (Ok tt)) (Err Outside)
 
 -- the slots after slot i was written below, or was not
 abbrev pub flushed : Result Unit DeviceFault → List (Option Copied) → ℕ → List (Option Copied)
@@ -37,6 +42,46 @@ Settles m (Ok _) n = (n .on ≡ m .on) × (m .on ≡ false → n ≡ m) × Keeps
 Settles m (Err Outside) n = ⊥
 Settles m (Err Off) n = IsOff m n × Keeps m n
 
--- a step that keeps what the calls before it have made true
-pub record Goes (before : Type 0) (m : Medium) (r : Result Unit DeviceFault) (after : Type 0) (n : Medium) : Type 0 where
-  pub follows : before → Settles m r n × after
+-- such a step, where the calls before it led to a cache that stands: it stands after the step, too
+pub record Goes {B : Type 0} (past : B → History → Type 0) (medium : B → Medium) (c : Cache B) (r : Result Unit DeviceFault) (d : Cache B) : Type 0 where
+  pub follows : Stands past medium c → Settles (cacheMedium medium c) r (cacheMedium medium d) × Stands past medium d
+
+-- a call of the device below, which changes no slot; the cache remembers it if the device says that it is off
+pub record Passes {B : Type 0} (past : B → History → Type 0) (medium : B → Medium) (c : Cache B) (e : Event) (r : Result Unit DeviceFault) (d : Cache B) : Type 0 where
+  pub happens : Happens (past (c .below)) (medium (c .below)) e (past (d .below)) (medium (d .below))
+  pub same-slots : d .slots ≡ c .slots
+  pub learns : d .off ≡ (saysOff r || c .off)
+
+abbrev pub answerOf : {A : Type 0} → Result A DeviceFault → Result Unit DeviceFault
+answerOf (Ok _) = Ok tt
+answerOf (Err y) = Err y
+
+-- the slot for a page that is not held: what was in it is written below, if it was changed
+abbrev pub Empties : List (Option Copied) → Result ℕ DeviceFault → List (Option Copied) → Type 0
+Empties ss (Ok i) ts =
+    (i < 8) × (isSome (slotAt ss i) ≡ true → Full ss) × (ts ≡ set ss i (cleaned (slotAt ss i)))
+Empties ss (Err y) ts = ts ≡ ss
+
+pub record Rooms {B : Type 0} (past : B → History → Type 0) (medium : B → Medium) (c : Cache B) (r : Result ℕ DeviceFault) (d : Cache B) : Type 0 where
+  pub goes : Goes past medium c (answerOf r) d
+  pub empties : Empties (c .slots .pages) r (d .slots .pages)
+  pub quiet : Roomy (c .slots .pages) → (isOk r ≡ true) × (d ≡ c)
+
+-- Slot i of ts is the one for page q: no other slot has the page, and if the slot has another page, that one is
+-- not changed. Before, the slots were ss.
+pub record Placed (ss : List (Option Copied)) (q i : ℕ) (ts : List (Option Copied)) : Type 0 where
+  pub within : i < 8
+  pub apart : copies ts q ≤ cond (has (slotAt ts i) q) 1 0
+  pub clean : (p : ℕ) → (p ≡ q → ⊥) → has (slotAt ts i) p ≡ true → isChanged (slotAt ts i) ≡ false
+  pub leaver : Option Copied
+  pub others : (p : ℕ) → (p ≡ q → ⊥) → has leaver p ≡ false → (has (slotAt ts i) p ≡ false) × (copyOf ts p ≡ copyOf ss p)
+  pub only-full : isSome leaver ≡ true → Full ss × (holds ss q ≡ false)
+
+abbrev pub Places : List (Option Copied) → ℕ → Result ℕ DeviceFault → List (Option Copied) → Type 0
+Places ss q (Ok i) ts = Placed ss q i ts
+Places ss q (Err y) ts = ts ≡ ss
+
+pub record Finding {B : Type 0} (past : B → History → Type 0) (medium : B → Medium) (c : Cache B) (q : ℕ) (r : Result ℕ DeviceFault) (d : Cache B) : Type 0 where
+  pub goes : Goes past medium c (answerOf r) d
+  pub places : Places (c .slots .pages) q r (d .slots .pages)
+  pub quiet : (holds (c .slots .pages) q ≡ true) ⊎ Roomy (c .slots .pages) → (isOk r ≡ true) × (d ≡ c)

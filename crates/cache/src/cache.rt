@@ -1,7 +1,10 @@
 use crate::slots::Slots;
 use device::Device;
 
+mod calls;
 mod steps;
+
+pub use calls::CacheReader;
 
 
 // Up to eight pages of a device, held in memory. A write stays there until the next sync, or until its slot is

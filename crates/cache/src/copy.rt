@@ -1,5 +1,3 @@
-ghost use mathlib.Core.Path.{_≡_};
-ghost use lib.ListN.{length};
 use device::Page;
 
 // A page that the cache holds.
@@ -9,5 +7,4 @@ pub struct Copied {
     // written to since the device below had these bytes
     pub changed: bool,
     pub bytes: Page,
-    ghost sized: { length bytes ≡ 512 },
 }

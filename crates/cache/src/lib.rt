@@ -3,3 +3,4 @@ mod copy;
 mod slots;
 
 pub use cache::Cache;
+pub use cache::CacheReader;

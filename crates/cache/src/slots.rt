@@ -4,7 +4,7 @@ ghost use Prim.Native.Nat.{_<_, _≤_};
 ghost use lib.ListN.{length, replicate, set};
 ghost use Rattle.std.specs.Options.{isSome};
 ghost use Rattle.std.specs.declared.option.Option.the-variants.{Some, None};
-ghost use Rattle.cache.specs.Held.{has, copyOf, copies, Distinct, slotAt, Full, Finds, Replaces};
+ghost use Rattle.cache.specs.Held.{has, copyOf, copies, Distinct, Sized, slotAt, Full, Finds, Replaces};
 use crate::copy::Copied;
 
 pub const SLOTS: usize = 8;
@@ -18,6 +18,7 @@ pub struct Slots {
     clock: u64,
     ghost eight: { length pages ≡ 8 },
     ghost distinct: { Distinct pages },
+    ghost sized: { Sized pages },
 }
 
 impl Slots {
@@ -72,6 +73,7 @@ impl Slots {
     // Puts a copy into a slot. No other slot has its page.
     pub fn put(&mut self, i: usize, copy: Copied)
         requires within { ⌜ i < 8 ⌝ }
+        requires sized { ⌜ length (copy .bytes) ≡ 512 ⌝ }
         requires apart { ⌜ copies (now self .pages) (copy .page) ≤ cond (has (slotAt (now self .pages) i) (copy .page)) 1 0 ⌝ }
         ensures slots { λ _. ⌜ now (self .exit) .pages ≡ set (now (self .entry) .pages) i (Some copy) ⌝ }
         ensures replaces { λ _. ⌜ Replaces (slotAt (now (self .entry) .pages) i) copy (copyOf (now (self .entry) .pages)) (copyOf (now (self .exit) .pages)) ⌝ }

@@ -2,18 +2,20 @@ ghost use mathlib.Core.Path.{_≡_};
 ghost use mathlib.Core.Bool.{true, false, _||_};
 ghost use Prim.Native.Nat.{_<_};
 ghost use Rattle.std.specs.declared.result.Result.the-variants.{Ok, Err};
+ghost use Rattle.device.specs.History.{did-read, did-write, did-sync};
 ghost use Rattle.cache.specs.Held.{isChanged, slotAt};
-ghost use Rattle.cache.specs.Cached.{Stands, cacheMedium};
-ghost use Rattle.cache.specs.Inner.{saysOff, flushed, Goes};
+ghost use Rattle.cache.specs.Cached.{shown};
+ghost use Rattle.cache.specs.Inner.{saysOff, admitted, flushed, Goes, Passes, Rooms, Finding};
 use crate::cache::Cache;
 use crate::copy::Copied;
 use device::Device;
 use device::DeviceFault;
+use device::Page;
 use device::Reader;
 
 impl<D: Device> Cache<D> {
     // Remembers it if the device says that it is off.
-    pub fn heard(&mut self, answer: Result<(), DeviceFault>) -> Result<(), DeviceFault>
+    fn heard(&mut self, answer: Result<(), DeviceFault>) -> Result<(), DeviceFault>
         ensures value { λ r. ⌜ r ≡ answer ⌝ }
         ensures below { λ _. ⌜ now (self .exit) .below ≡ now (self .entry) .below ⌝ }
         ensures slots { λ _. ⌜ now (self .exit) .slots ≡ now (self .entry) .slots ⌝ }
@@ -25,12 +27,33 @@ impl<D: Device> Cache<D> {
         answer
     }
 
+    pub fn read_below(&mut self, page: u32, buffer: &mut Page) -> Result<(), DeviceFault>
+        ensures { λ r. ⌜ Passes (D·Reader .past) (D·Reader .medium) (now (self .entry)) (did-read page (now (buffer .exit)) r) r (now (self .exit)) ⌝ }
+    {
+        let answer = self.below.read(page, buffer);
+        self.heard(answer)
+    }
+
+    pub fn write_below(&mut self, page: u32, bytes: &Page) -> Result<(), DeviceFault>
+        ensures { λ r. ⌜ Passes (D·Reader .past) (D·Reader .medium) (now (self .entry)) (did-write page (now (bytes .entry)) r) r (now (self .exit)) ⌝ }
+    {
+        let answer = self.below.write(page, bytes);
+        self.heard(answer)
+    }
+
+    pub fn sync_below(&mut self) -> Result<(), DeviceFault>
+        ensures { λ r. ⌜ Passes (D·Reader .past) (D·Reader .medium) (now (self .entry)) (did-sync r) r (now (self .exit)) ⌝ }
+    {
+        let answer = self.below.sync();
+        self.heard(answer)
+    }
+
     // Writes a changed page below. If that fails, the page stays changed.
     pub fn flush(&mut self, i: usize) -> Result<(), DeviceFault>
         requires { ⌜ i < 8 ⌝ }
         ensures slots { λ r. ⌜ now (self .exit) .slots .pages ≡ flushed r (now (self .entry) .slots .pages) i ⌝ }
         ensures clean { λ r. ⌜ (isChanged (slotAt (now (self .entry) .slots .pages) i) ≡ false → (r ≡ Ok tt) × (now (self .exit) ≡ now (self .entry))) ⌝ }
-        ensures meaning { λ r. ⌜ Goes (Stands (D·Reader .past (now (self .entry) .below)) (now (self .entry) .slots) (now (self .entry) .off) (D·Reader .medium (now (self .entry) .below))) (cacheMedium (now (self .entry) .slots) (D·Reader .medium (now (self .entry) .below))) r (Stands (D·Reader .past (now (self .exit) .below)) (now (self .exit) .slots) (now (self .exit) .off) (D·Reader .medium (now (self .exit) .below))) (cacheMedium (now (self .exit) .slots) (D·Reader .medium (now (self .exit) .below))) ⌝ }
+        ensures meaning { λ r. ⌜ Goes (D·Reader .past) (D·Reader .medium) (now (self .entry)) r (now (self .exit)) ⌝ }
     {
         let Some(copy) = self.slots.get(i) else {
             return Ok(());
@@ -38,8 +61,7 @@ impl<D: Device> Cache<D> {
         if !copy.changed {
             return Ok(());
         }
-        let answer = self.below.write(copy.page, &copy.bytes);
-        self.heard(answer)?;
+        self.write_below(copy.page, &copy.bytes)?;
         let settled = Copied {
             page: copy.page,
             changed: false,
@@ -47,5 +69,52 @@ impl<D: Device> Cache<D> {
         };
         self.slots.put(i, settled);
         Ok(())
+    }
+
+    // Refuses a page outside the device, and then every page if the device is off.
+    pub fn admit(&self, page: u32) -> Result<(), DeviceFault>
+        ensures { λ r. ⌜ r ≡ admitted (D·Reader .medium (now (self .entry) .below) .size) (now (self .entry) .off) page ⌝ }
+    {
+        if page >= self.below.pages() {
+            return Err(DeviceFault::Outside);
+        }
+        if self.off {
+            return Err(DeviceFault::Off);
+        }
+        Ok(())
+    }
+
+    // Copies the page in a slot into the buffer.
+    pub fn show(&mut self, i: usize, buffer: &mut Page)
+        requires within { ⌜ i < 8 ⌝ }
+        ensures below { λ _. ⌜ now (self .exit) .below ≡ now (self .entry) .below ⌝ }
+        ensures pages { λ _. ⌜ now (self .exit) .slots .pages ≡ now (self .entry) .slots .pages ⌝ }
+        ensures off { λ _. ⌜ now (self .exit) .off ≡ now (self .entry) .off ⌝ }
+        ensures shows { λ _. ⌜ now (buffer .exit) ≡ shown (slotAt (now (self .entry) .slots .pages) i) (now (buffer .entry)) ⌝ }
+    {
+        if let Some(copy) = self.slots.get(i) {
+            let bytes = copy.bytes;
+            *buffer = bytes;
+        }
+        self.slots.touch(i);
+    }
+
+    // A slot for a page that is not held. A changed page that leaves it is written below first.
+    pub fn room(&mut self) -> Result<usize, DeviceFault>
+        ensures { λ r. ⌜ Rooms (D·Reader .past) (D·Reader .medium) (now (self .entry)) r (now (self .exit)) ⌝ }
+    {
+        let i = self.slots.oldest();
+        self.flush(i)?;
+        Ok(i)
+    }
+
+    // The slot that has the page, or one that it may go to.
+    pub fn slot_for(&mut self, page: u32) -> Result<usize, DeviceFault>
+        ensures { λ r. ⌜ Finding (D·Reader .past) (D·Reader .medium) (now (self .entry)) page r (now (self .exit)) ⌝ }
+    {
+        match self.slots.find(page) {
+            Some(i) => Ok(i),
+            None => self.room(),
+        }
     }
 }

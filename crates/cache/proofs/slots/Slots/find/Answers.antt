@@ -6,7 +6,7 @@ use native.Mathlib.Omega.{arith}
 use lib.ListN.{length}
 use Rattle.std.specs.declared.option.Option.{Option}
 use Rattle.std.specs.declared.option.Option.the-variants.{Some, None}
-use Rattle.std.proofs.shelf.Lists.{getD-default, drop-all}
+use Rattle.std.proofs.shelf.Lists.{drop-all}
 use Rattle.std.proofs.shelf.Tests.{eq-eqb, ne-eqb}
 use Rattle.cache.specs.declared.copy.Copied.{Copied}
 use Rattle.cache.specs.Held.{has, copyOf, slotAt}
@@ -18,7 +18,7 @@ pub returns-then-copy-page : need.returns-then-copy-page
 returns-then-copy-page c =
     let ss = c .args .self .now .pages in
     let l : c .loop-i .i < length ss = omega arith in
-    let e : slotAt ss (c .loop-i .i) ≡ Some (c .in-Some .copy) = getD-default ss (c .loop-i .i) None (c .slot-item .result) l ∙ c .in-Some .is in
+    let e : slotAt ss (c .loop-i .i) ≡ Some (c .in-Some .copy) = c .in-Some .is in
     let h : has (slotAt ss (c .loop-i .i)) (c .args .page) ≡ true =
         ap (λ (s : Option Copied). has s (c .args .page)) e ∙ eq-eqb _ _ (c .if-copy-page .taken) in
     (l, h, copy-at ss (c .loop-i .i) (c .args .page) (c .args .self .now .distinct (c .args .page)) h)
@@ -27,11 +27,10 @@ pub loop-i-again : need.loop-i-again
 loop-i-again c =
     let ss = c .args .self .now .pages in
     let l : c .loop-i .i < length ss = omega arith in
-    let d = getD-default ss (c .loop-i .i) None (c .slot-item .result) l in
     let h : has (slotAt ss (c .loop-i .i)) (c .args .page) ≡ false =
         elim (c .match-slot .came) [
-          in-Some·else-copy-page w ↦ ap (λ (s : Option Copied). has s (c .args .page)) (d ∙ w .in-Some .is) ∙ ne-eqb _ _ (w .if-copy-page .left)
-        | in-rest w ↦ ap (λ (s : Option Copied). has s (c .args .page)) (d ∙ w .in-rest .is)
+          in-Some·else-copy-page w ↦ ap (λ (s : Option Copied). has s (c .args .page)) (w .in-Some .is) ∙ ne-eqb _ _ (w .if-copy-page .left)
+        | in-rest w ↦ ap (λ (s : Option Copied). has s (c .args .page)) (w .in-rest .is)
         ] in
     c .loop-i .inv ∙ search-more ss (c .loop-i .i) (c .args .page) l h
 
