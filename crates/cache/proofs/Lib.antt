@@ -1,3 +1,4 @@
 pub mod Copies
 pub mod Steps
 pub mod Flushes
+pub mod Places
