@@ -22,7 +22,7 @@ use Rattle.cache.specs.Held.{has, isChanged, copyOf, holds, copies, slotAt, Fu
 use Rattle.cache.specs.Inner.{Empties, Rooms, Placed, Places, Finding}
 use Rattle.cache.proofs.Copies.{copies-none, copies-set, copy-set-other}
 
-has-cleaned : (o : Option Copied) (p : ℕ) → has (cleaned o) p ≡ has o p
+pub has-cleaned : (o : Option Copied) (p : ℕ) → has (cleaned o) p ≡ has o p
 has-cleaned None p = refl
 has-cleaned (Some c) p = refl
 
@@ -30,13 +30,18 @@ pub changed-cleaned : (o : Option Copied) → isChanged (cleaned o) ≡ false
 changed-cleaned None = refl
 changed-cleaned (Some c) = refl
 
+pub copies-cleaned : (ss : List (Option Copied)) (i p : ℕ) → i < length ss
+  → copies (set ss i (cleaned (slotAt ss i))) p ≡ copies ss p
+copies-cleaned ss i p l =
+    let a = copies-set ss i p (cleaned (slotAt ss i)) l in
+    let d = ap (λ (b : Bool). cond {A = ℕ} b 1 0) (has-cleaned (slotAt ss i) p) in omega arith
+
 -- an empty slot, or one with a page that leaves it
 pub placed-new : (ss : List (Option Copied)) (q i : ℕ) → i < length ss → i < 8 → (isSome (slotAt ss i) ≡ true → Full ss)
   → copyOf ss q ≡ None → Placed ss q i (set ss i (cleaned (slotAt ss i)))
 placed-new ss q i l w f e = record {
   within = w;
-  apart = let a = copies-set ss i q (cleaned o) l in let b = copies-none ss q e in
-    let d : cond (has (cleaned o) q) 1 0 ≡ cond (has o q) 1 0 = ap (λ (b : Bool). cond {A = ℕ} b 1 0) (has-cleaned o q) in omega arith;
+  apart = let a = copies-cleaned ss i q l in let b = copies-none ss q e in omega arith;
   clean = λ _ _ _. ap isChanged now ∙ changed-cleaned o;
   leaver = o;
   others = λ p _ h. (ap (λ (s : Option Copied). has s p) now ∙ has-cleaned o p ∙ h, copy-set-other ss i p (cleaned o) (has-cleaned o p ∙ h) h);

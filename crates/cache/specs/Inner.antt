@@ -3,7 +3,6 @@ use Prim.Native.Nat.{ℕ, _<_, _≤_}
 use mathlib.Core.Path.{_≡_}
 use mathlib.Core.Bool.{Bool, true, false, _||_, cond}
 use mathlib.Core.List.{List}
-use lib.Dec.{ltb}
 use lib.ListN.{length, set}
 use mathlib.Core.Logic.{_⊎_}
 use Rattle.std.specs.Options.{isSome}
@@ -27,10 +26,6 @@ abbrev pub saysOff : Result Unit DeviceFault → Bool
 saysOff (Ok _) = false
 saysOff (Err Outside) = false
 saysOff (Err Off) = true
-
--- a page outside the device is refused before all else, and then every page if the device is off
-abbrev pub admitted : ℕ → Bool → ℕ → Result Unit DeviceFault
-admitted size off p = cond (ltb p size) (cond off (Err Off) (Ok tt)) (Err Outside)
 
 -- the slots after slot i was written below, or was not
 abbrev pub flushed : Result Unit DeviceFault → List (Option Copied) → ℕ → List (Option Copied)

@@ -1,3 +1,4 @@
 pub mod Held
 pub mod Cached
+pub mod Calls
 pub mod Inner

@@ -2,10 +2,13 @@ ghost use mathlib.Core.Path.{_≡_};
 ghost use mathlib.Core.Bool.{true, false, _||_};
 ghost use Prim.Native.Nat.{_<_};
 ghost use Rattle.std.specs.declared.result.Result.the-variants.{Ok, Err};
-ghost use Rattle.device.specs.History.{did-read, did-write, did-sync};
+ghost use Rattle.std.specs.declared.option.Option.the-variants.{None};
+ghost use Rattle.device.specs.Medium.{zeros};
+ghost use Rattle.device.specs.History.{Happens, did-read, did-write, did-sync};
 ghost use Rattle.cache.specs.Held.{isChanged, slotAt};
-ghost use Rattle.cache.specs.Cached.{shown};
-ghost use Rattle.cache.specs.Inner.{saysOff, admitted, flushed, Goes, Passes, Rooms, Finding};
+ghost use Rattle.cache.specs.Cached.{shown, copiesOf, cacheMedium, cachePast};
+ghost use Rattle.cache.specs.Calls.{admitted, Fetches};
+ghost use Rattle.cache.specs.Inner.{saysOff, flushed, Goes, Passes, Rooms, Finding};
 use crate::cache::Cache;
 use crate::copy::Copied;
 use device::Device;
@@ -116,5 +119,26 @@ impl<D: Device> Cache<D> {
             Some(i) => Ok(i),
             None => self.room(),
         }
+    }
+
+    // Reads a page that is not held below, and holds it.
+    pub fn fetch(&mut self, page: u32, buffer: &mut Page) -> Result<(), DeviceFault>
+        requires admits { ⌜ admitted (D·Reader .medium (now self .below) .size) (now self .off) page ≡ Ok tt ⌝ }
+        requires misses { ⌜ copiesOf (now self) page ≡ None ⌝ }
+        requires clear { ⌜ now buffer ≡ zeros ⌝ }
+        ensures meaning { λ r. ⌜ Happens (cachePast (D·Reader .past) (D·Reader .medium) (now (self .entry))) (cacheMedium (D·Reader .medium) (now (self .entry))) (did-read page (now (buffer .exit)) r) (cachePast (D·Reader .past) (D·Reader .medium) (now (self .exit))) (cacheMedium (D·Reader .medium) (now (self .exit))) ⌝ }
+        ensures fetches { λ r. ⌜ Fetches (D·Reader .past) (D·Reader .medium) (now (self .entry)) page (now (buffer .exit)) r (now (self .exit)) ⌝ }
+    {
+        let i = self.room()?;
+        self.read_below(page, buffer)?;
+        let bytes = *buffer;
+        let copy = Copied {
+            page,
+            changed: false,
+            bytes,
+        };
+        self.slots.put(i, copy);
+        self.slots.touch(i);
+        Ok(())
     }
 }
