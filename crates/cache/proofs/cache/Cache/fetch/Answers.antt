@@ -1,9 +1,11 @@
 use mathlib.Core.Path.{_≡_, refl, sym, _∙_, ap, subst}
+use mathlib.Core.Bool.{false}
+use mathlib.Core.List.{List}
 use borrow.Author.Needs.{needs}
+use Rattle.std.specs.declared.option.Option.{Option}
 use Rattle.std.proofs.shelf.Results.{err-from-errBy}
 use Rattle.cache.specs.declared.copy.Copied.{Copied}
 use Rattle.cache.specs.Held.{slotAt, copyOf, Replaces}
-use Rattle.cache.specs.Cached.{copiesOf}
 use Rattle.cache.proofs.Fetched.{admitted-ok, fetch-crowded, fetch-lost, fetches-crowded, fetches-lost, fetches-done, placed-there}
 use Rattle.cache.proofs.cache.Cache.fetch.Needs as need
 
@@ -36,4 +38,13 @@ put-requires g c κs =
     record { within = pl .within; sized = search needs; apart = pl .apart }
 
 pub returns : need.returns
-returns g c = ?
+returns g c =
+    let h = c .in-Continue-i .ensures tt in
+    let p = c .in-Continue-read-below .ensures tt in
+    let i = c .in-Continue-i .i in
+    let ss = c .read-below .last .self .slots .pages in
+    let k : Copied = record { page = c .args .page; changed = false; bytes = c .read-below .last .buffer } in
+    let r : Replaces (slotAt ss i) k (copyOf ss) (copyOf (c .touch .last .self .pages)) =
+        subst (λ (ts : List (Option Copied)). Replaces (slotAt ss i) k (copyOf ss) (copyOf ts)) (sym (c .touch .ensures)) (c .put .ensures .replaces) in
+    let f = fetches-done {t = c .touch .last .self} i k h p (c .pre .misses) refl r in
+    record { meaning = f .0; fetches = record { holds-it = (f .1, f .2); one-call = f .3 } }
