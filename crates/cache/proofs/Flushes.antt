@@ -22,7 +22,8 @@ use Rattle.cache.specs.declared.cache.Cache.{Cache}
 use Rattle.cache.specs.declared.slots.Slots.{Slots}
 use Rattle.cache.specs.Held.{has, isChanged, copyOf, copies, slotAt, cleaned, Replaces}
 use Rattle.cache.specs.Cached.{shown, over, Agrees, copiesOf, cacheMedium, Stands}
-use Rattle.cache.specs.Inner.{saysOff, flushed, Settles, Goes, Passes}
+use Rattle.cache.specs.Calls.{saysOff}
+use Rattle.cache.specs.Inner.{flushed, Settles, Goes, Passes}
 use Rattle.cache.proofs.Copies.{copy-at, copies-at}
 use Rattle.cache.proofs.Steps.{settles-same, flush-lost, flush-done}
 

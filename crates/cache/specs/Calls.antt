@@ -66,3 +66,56 @@ Reading past medium (Ok _) None c q b r d = Fetches past medium c q b r d
 pub record CacheReads {B : Type 0} (past : B → History → Type 0) (medium : B → Medium) (c : Cache B) (q : ℕ) (b : List ℕ) (r : Result Unit DeviceFault) (d : Cache B) : Type 0 where
   pub reads : Reading past medium (admitted (medium (c .below) .size) (c .off) q) (copiesOf c q) c q b r d
   pub holds-it : r ≡ Ok tt → holds (d .slots .pages) q ≡ true
+
+-- A page is written to its slot. There is no call below if it is held, or if no changed page has to leave for it.
+pub record Stores {B : Type 0} (c : Cache B) (q : ℕ) (b : List ℕ) (r : Result Unit DeviceFault) (d : Cache B) : Type 0 where
+  pub holds-it : Taken (c .slots .pages) (record { page = q; changed = true; bytes = b }) r (d .slots .pages)
+  pub no-call : (holds (c .slots .pages) q ≡ true) ⊎ Roomy (c .slots .pages) → (r ≡ Ok tt) × (d .below ≡ c .below) × (d .off ≡ c .off)
+
+-- a write of b to page q, by whether it is admitted
+abbrev pub Writing : {B : Type 0} → Result Unit DeviceFault → Cache B → ℕ → List ℕ → Result Unit DeviceFault → Cache B → Type 0
+Writing (Err y) c q b r d = (r ≡ Err y) × (d ≡ c)
+Writing (Ok _) c q b r d = Stores c q b r d
+
+pub record CacheWrites {B : Type 0} (medium : B → Medium) (c : Cache B) (q : ℕ) (b : List ℕ) (r : Result Unit DeviceFault) (d : Cache B) : Type 0 where
+  pub writes : Writing (admitted (medium (c .below) .size) (c .off) q) c q b r d
+  pub holds-it : r ≡ Ok tt → holds (d .slots .pages) q ≡ true
+
+-- no copy is changed
+abbrev pub Clean : List (Option Copied) → Type 0
+Clean ss = (i : ℕ) → isChanged (slotAt ss i) ≡ false
+
+-- every changed page was written below, or some were
+abbrev pub Flushed : List (Option Copied) → Result Unit DeviceFault → List (Option Copied) → Type 0
+Flushed ss (Ok _) ts = (p : ℕ) → copyOf ts p ≡ cleaned (copyOf ss p)
+Flushed ss (Err _) ts = Settled ss ts
+
+-- a sync, by whether the device is off; where no copy is changed, it is one call below
+abbrev pub Syncing : {B : Type 0} → (B → History → Type 0) → (B → Medium) → Bool → Cache B → Result Unit DeviceFault → Cache B → Type 0
+Syncing past medium true c r d = (r ≡ Err Off) × (d ≡ c)
+Syncing past medium false c r d =
+    Flushed (c .slots .pages) r (d .slots .pages) × (Clean (c .slots .pages) → Calls past medium c (did-sync r) d)
+
+-- no slot has a page
+abbrev pub Empty : List (Option Copied) → Type 0
+Empty ss = ss ≡ replicate 8 None
+
+-- a power return: one call below, and the cache is empty
+pub record CacheReturns {B : Type 0} (past : B → History → Type 0) (medium : B → Medium) (c d : Cache B) : Type 0 where
+  pub empty : Empty (d .slots .pages)
+  pub is-on : d .off ≡ false
+  pub one-call : Calls past medium c power-returned d
+
+-- the device says that it is off
+abbrev pub saysOff : Result Unit DeviceFault → Bool
+saysOff (Ok _) = false
+saysOff (Err Outside) = false
+saysOff (Err Off) = true
+
+-- the making of a cache over a device: one read of page 0, whose answer tells whether the device is off
+pub record Makes {B : Type 0} (past : B → History → Type 0) (medium : B → Medium) (below : B) (c : Cache B) : Type 0 where
+  pub buffer : List ℕ
+  pub answer : Result Unit DeviceFault
+  pub one-call : Happens (past below) (medium below) (did-read 0 buffer answer) (past (c .below)) (medium (c .below))
+  pub empty : Empty (c .slots .pages)
+  pub knows : c .off ≡ saysOff answer

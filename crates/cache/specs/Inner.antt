@@ -19,13 +19,8 @@ use Rattle.device.specs.declared.fault.DeviceFault.the-variants.{Outside, Off}
 use Rattle.cache.specs.declared.copy.Copied.{Copied}
 use Rattle.cache.specs.declared.cache.Cache.{Cache}
 use Rattle.cache.specs.Held.{has, isChanged, copyOf, holds, copies, slotAt, Full, Roomy, cleaned}
+use Rattle.cache.specs.Calls.{saysOff, Settled, Clean, Flushed}
 use Rattle.cache.specs.Cached.{Stands, cacheMedium}
-
--- the device says that it is off
-abbrev pub saysOff : Result Unit DeviceFault → Bool
-saysOff (Ok _) = false
-saysOff (Err Outside) = false
-saysOff (Err Off) = true
 
 -- the slots after slot i was written below, or was not
 abbrev pub flushed : Result Unit DeviceFault → List (Option Copied) → ℕ → List (Option Copied)
@@ -80,3 +75,17 @@ pub record Finding {B : Type 0} (past : B → History → Type 0) (medium : B �
   pub goes : Goes past medium c (answerOf r) d
   pub places : Places (c .slots .pages) q r (d .slots .pages)
   pub quiet : (holds (c .slots .pages) q ≡ true) ⊎ Roomy (c .slots .pages) → (isOk r ≡ true) × (d ≡ c)
+
+-- every slot is written below
+pub record FlushesAll {B : Type 0} (past : B → History → Type 0) (medium : B → Medium) (c : Cache B) (r : Result Unit DeviceFault) (d : Cache B) : Type 0 where
+  pub goes : Goes past medium c r d
+  pub flushes : Flushed (c .slots .pages) r (d .slots .pages)
+  pub cleans : r ≡ Ok tt → Clean (d .slots .pages)
+  pub quiet : Clean (c .slots .pages) → (r ≡ Ok tt) × (d ≡ c)
+
+-- the first k slots were written below
+pub record FlushedTo {B : Type 0} (past : B → History → Type 0) (medium : B → Medium) (c : Cache B) (k : ℕ) (d : Cache B) : Type 0 where
+  pub goes : Goes past medium c (Ok tt) d
+  pub settled : Settled (c .slots .pages) (d .slots .pages)
+  pub cleans : (i : ℕ) → i < k → isChanged (slotAt (d .slots .pages) i) ≡ false
+  pub quiet : Clean (c .slots .pages) → d ≡ c

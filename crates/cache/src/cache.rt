@@ -4,6 +4,8 @@ use device::Device;
 mod calls;
 mod steps;
 
+pub use calls::CacheDevice;
+pub use calls::CachePowerCycle;
 pub use calls::CacheReader;
 
 

@@ -7,10 +7,11 @@ ghost use Rattle.device.specs.Medium.{zeros};
 ghost use Rattle.device.specs.History.{Happens, did-read, did-write, did-sync};
 ghost use Rattle.cache.specs.Held.{isChanged, slotAt};
 ghost use Rattle.cache.specs.Cached.{shown, copiesOf, cacheMedium, cachePast};
-ghost use Rattle.cache.specs.Calls.{admitted, Fetches};
-ghost use Rattle.cache.specs.Inner.{saysOff, flushed, Goes, Passes, Rooms, Finding};
+ghost use Rattle.cache.specs.Calls.{saysOff, admitted, Fetches};
+ghost use Rattle.cache.specs.Inner.{flushed, Goes, Passes, Rooms, Finding, FlushesAll};
 use crate::cache::Cache;
 use crate::copy::Copied;
+use crate::slots::SLOTS;
 use device::Device;
 use device::DeviceFault;
 use device::Page;
@@ -18,7 +19,7 @@ use device::Reader;
 
 impl<D: Device> Cache<D> {
     // Remembers it if the device says that it is off.
-    fn heard(&mut self, answer: Result<(), DeviceFault>) -> Result<(), DeviceFault>
+    pub fn heard(&mut self, answer: Result<(), DeviceFault>) -> Result<(), DeviceFault>
         ensures value { λ r. ⌜ r ≡ answer ⌝ }
         ensures below { λ _. ⌜ now (self .exit) .below ≡ now (self .entry) .below ⌝ }
         ensures slots { λ _. ⌜ now (self .exit) .slots ≡ now (self .entry) .slots ⌝ }
@@ -139,6 +140,16 @@ impl<D: Device> Cache<D> {
         };
         self.slots.put(i, copy);
         self.slots.touch(i);
+        Ok(())
+    }
+
+    // Writes every changed page below.
+    pub fn flush_all(&mut self) -> Result<(), DeviceFault>
+        ensures { λ r. ⌜ FlushesAll (D·Reader .past) (D·Reader .medium) (now (self .entry)) r (now (self .exit)) ⌝ }
+    {
+        for i in 0..SLOTS {
+            self.flush(i)?;
+        }
         Ok(())
     }
 }
