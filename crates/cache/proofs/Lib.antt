@@ -5,3 +5,5 @@ pub mod Places
 pub mod Takes
 pub mod Fetched
 pub mod Refused
+pub mod Stored
+pub mod Synced
