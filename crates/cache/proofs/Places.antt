@@ -31,14 +31,14 @@ changed-cleaned None = refl
 changed-cleaned (Some c) = refl
 
 pub copies-cleaned : (ss : List (Option Copied)) (i p : ℕ) → i < length ss
-  → copies (set ss i (cleaned (slotAt ss i))) p ≡ copies ss p
+    → copies (set ss i (cleaned (slotAt ss i))) p ≡ copies ss p
 copies-cleaned ss i p l =
     let a = copies-set ss i p (cleaned (slotAt ss i)) l in
     let d = ap (λ (b : Bool). cond {A = ℕ} b 1 0) (has-cleaned (slotAt ss i) p) in omega arith
 
 -- an empty slot, or one with a page that leaves it
 pub placed-new : (ss : List (Option Copied)) (q i : ℕ) → i < length ss → i < 8 → (isSome (slotAt ss i) ≡ true → Full ss)
-  → copyOf ss q ≡ None → Placed ss q i (set ss i (cleaned (slotAt ss i)))
+    → copyOf ss q ≡ None → Placed ss q i (set ss i (cleaned (slotAt ss i)))
 placed-new ss q i l w f e = record {
   within = w;
   apart = let a = copies-cleaned ss i q l in let b = copies-none ss q e in omega arith;
@@ -50,11 +50,12 @@ placed-new ss q i l w f e = record {
   where
     o : Option Copied
     o = slotAt ss i
+
     now : slotAt (set ss i (cleaned (slotAt ss i))) i ≡ cleaned (slotAt ss i)
     now = getD-set-same ss i (cleaned (slotAt ss i)) None l
 
 pub finding-new : {B : Type 0} {past : B → History → Type 0} {medium : B → Medium} {c d : Cache B} (q : ℕ) (r : Result ℕ DeviceFault)
-  → copyOf (c .slots .pages) q ≡ None → Rooms past medium c r d → Finding past medium c q r d
+    → copyOf (c .slots .pages) q ≡ None → Rooms past medium c r d → Finding past medium c q r d
 finding-new {c = c} {d = d} q r e h = record {
   goes = h .goes;
   places = go r (h .empties);

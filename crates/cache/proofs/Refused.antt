@@ -38,26 +38,30 @@ still-off : (m : Medium) → m .on ≡ false → IsOff m m
 still-off m e = record { is-off = e; still = λ _. refl }
 
 pub read-refused : {B : Type 0} {past : B → History → Type 0} {medium : B → Medium} {c : Cache B} (q : ℕ) (y : DeviceFault)
-  → admitted (medium (c .below) .size) (c .off) q ≡ Err y
-  → Happens (cachePast past medium c) (cacheMedium medium c) (did-read q zeros (Err y)) (cachePast past medium c) (cacheMedium medium c)
+    → admitted (medium (c .below) .size) (c .off) q ≡ Err y
+    → Happens (cachePast past medium c) (cacheMedium medium c) (did-read q zeros (Err y)) (cachePast past medium c) (cacheMedium medium c)
 unfolding Because
 read-refused {medium = medium} {c = c} q Outside e = record { follows = λ _ a. ((because _ _ q Outside e, refl, refl), a) }
-read-refused {medium = medium} {c = c} q Off e = record { follows = λ _ a.
-    let b = because _ _ q Off e in
-    ((b .0, still-off (cacheMedium medium c) (a .agrees .knows-off (b .1)), refl, keeps-same (cacheMedium medium c)), a) }
+read-refused {medium = medium} {c = c} q Off e = record {
+  follows = λ _ a.
+      let b = because _ _ q Off e in
+      ((b .0, still-off (cacheMedium medium c) (a .agrees .knows-off (b .1)), refl, keeps-same (cacheMedium medium c)), a);
+}
 
 pub reads-refused : {B : Type 0} {past : B → History → Type 0} {medium : B → Medium} {c : Cache B} (q : ℕ) (y : DeviceFault)
-  → admitted (medium (c .below) .size) (c .off) q ≡ Err y → CacheReads past medium c q zeros (Err y) c
+    → admitted (medium (c .below) .size) (c .off) q ≡ Err y → CacheReads past medium c q zeros (Err y) c
 reads-refused q y e = record {
   reads = rw e (refl, refl, refl);
   holds-it = λ z. absurd (let n : _≡_ {A = ℕ} 0 1 = cc in omega arith);
 }
 
 pub write-refused : {B : Type 0} {past : B → History → Type 0} {medium : B → Medium} {c : Cache B} (q : ℕ) (b : List ℕ) (y : DeviceFault)
-  → admitted (medium (c .below) .size) (c .off) q ≡ Err y
-  → Happens (cachePast past medium c) (cacheMedium medium c) (did-write q b (Err y)) (cachePast past medium c) (cacheMedium medium c)
+    → admitted (medium (c .below) .size) (c .off) q ≡ Err y
+    → Happens (cachePast past medium c) (cacheMedium medium c) (did-write q b (Err y)) (cachePast past medium c) (cacheMedium medium c)
 unfolding Because
 write-refused {medium = medium} {c = c} q b Outside e = record { follows = λ _ a. ((because _ _ q Outside e, refl), a) }
-write-refused {medium = medium} {c = c} q b Off e = record { follows = λ _ a.
-    let z = because _ _ q Off e in
-    ((z .0, still-off (cacheMedium medium c) (a .agrees .knows-off (z .1)), inr refl, record { same-size = refl; same-bytes = λ _ _. refl; stays-durable = λ _ _ h. h }), a) }
+write-refused {medium = medium} {c = c} q b Off e = record {
+  follows = λ _ a.
+      let z = because _ _ q Off e in
+      ((z .0, still-off (cacheMedium medium c) (a .agrees .knows-off (z .1)), inr refl, record { same-size = refl; same-bytes = λ _ _. refl; stays-durable = λ _ _ h. h }), a);
+}

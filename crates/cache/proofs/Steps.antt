@@ -45,7 +45,7 @@ settles-more m k n (Err Off) a b =
 
 -- a copy that shows what the page below had, and still has
 held-same : (f : ℕ → Option Copied) (m n : Medium) (q : ℕ) → isSome (f q) ≡ true → isChanged (f q) ≡ true → KeepsBut q m n
-  → (p : ℕ) → shown (f p) (n .bytes p) ≡ shown (f p) (m .bytes p)
+    → (p : ℕ) → shown (f p) (n .bytes p) ≡ shown (f p) (m .bytes p)
 held-same f m n q s h k p = ⊎-elim
     (λ e. rw e (both (f q) s))
     (λ e. ap (shown (f p)) (k .same-bytes p e))
@@ -57,8 +57,8 @@ held-same f m n q s h k p = ⊎-elim
 
 -- the device lost its power on the write of a changed page
 pub flush-lost : (f : ℕ → Option Copied) (off : Bool) (m n : Medium) (q : ℕ) (b : List ℕ)
-  → isSome (f q) ≡ true → isChanged (f q) ≡ true → Agrees f off m → Writes m q b (Err Off) n
-  → Settles (over f m) (Err Off) (over f n) × Agrees f true n
+    → isSome (f q) ≡ true → isChanged (f q) ≡ true → Agrees f off m → Writes m q b (Err Off) n
+    → Settles (over f m) (Err Off) (over f n) × Agrees f true n
 flush-lost f off m n q b s h a w = (
   (
     record { is-off = w .1 .is-off; still = λ e. ap (over f) (w .1 .still e) },
@@ -66,7 +66,7 @@ flush-lost f off m n q b s h a w = (
       same-size = w .3 .same-size;
       same-bytes = held-same f m n q s h (w .3);
       stays-durable = λ p e. let d = or-parts (isChanged (f p)) (m .volatile p) e in
-        or-from (isChanged (f p)) (n .volatile p) (d .0) (w .3 .stays-durable p (not-q p (d .0)) (d .1));
+          or-from (isChanged (f p)) (n .volatile p) (d .0) (w .3 .stays-durable p (not-q p (d .0)) (d .1));
     },
   ),
   record {
@@ -82,9 +82,9 @@ flush-lost f off m n q b s h a w = (
 
 -- a changed page was written below
 pub flush-done : (f g : ℕ → Option Copied) (off : Bool) (m n : Medium) (c d : Copied)
-  → Replaces (Some c) d f g → d .page ≡ c .page → d .changed ≡ false → d .bytes ≡ c .bytes → c .changed ≡ true
-  → Agrees f off m → Writes m (c .page) (c .bytes) (Ok tt) n
-  → Settles (over f m) (Ok tt) (over g n) × Agrees g off n
+    → Replaces (Some c) d f g → d .page ≡ c .page → d .changed ≡ false → d .bytes ≡ c .bytes → c .changed ≡ true
+    → Agrees f off m → Writes m (c .page) (c .bytes) (Ok tt) n
+    → Settles (over f m) (Ok tt) (over g n) × Agrees g off n
 flush-done f g off m n c d r x y z t a w = (
   (
     w .1 .is-on ∙ sym (w .1 .was-on),
@@ -92,21 +92,21 @@ flush-done f g off m n c d r x y z t a w = (
     record {
       same-size = w .3 .same-size;
       same-bytes = λ p. ⊎-elim
-        (λ e. rw e (rw (new, was) z))
-        (λ e. rw (others p e) (ap (shown (f p)) (w .3 .same-bytes p e)))
-        (cases-eq p (c .page));
+          (λ e. rw e (rw (new, was) z))
+          (λ e. rw (others p e) (ap (shown (f p)) (w .3 .same-bytes p e)))
+          (cases-eq p (c .page));
       stays-durable = λ p e. let u = or-parts (isChanged (f p)) (m .volatile p) e in
-        let v : p ≡ c .page → ⊥ = λ i. both-ways (c .changed) (ap isChanged (sym was) ∙ subst (λ (x : ℕ). isChanged (f x) ≡ false) i (u .0)) t in
-        or-from (isChanged (g p)) (n .volatile p) (ap isChanged (others p v) ∙ u .0) (w .3 .stays-durable p v (u .1));
+          let v : p ≡ c .page → ⊥ = λ i. both-ways (c .changed) (ap isChanged (sym was) ∙ subst (λ (x : ℕ). isChanged (f x) ≡ false) i (u .0)) t in
+          or-from (isChanged (g p)) (n .volatile p) (ap isChanged (others p v) ∙ u .0) (w .3 .stays-durable p v (u .1));
     },
   ),
   record {
     same = λ p i e. ⊎-elim
         (λ j. rw j (rw new (z ∙ sym (w .2))))
         (λ j. let u = w .3 .same-bytes p j in let v = others p j in
-          let i′ : isSome (f p) ≡ true = ap isSome (sym v) ∙ i in
-          let e′ : isChanged (f p) ≡ false = ap isChanged (sym v) ∙ e in
-          rw (v, u) (a .same p i′ e′))
+        let i′ : isSome (f p) ≡ true = ap isSome (sym v) ∙ i in
+        let e′ : isChanged (f p) ≡ false = ap isChanged (sym v) ∙ e in
+        rw (v, u) (a .same p i′ e′))
         (cases-eq p (c .page));
     within = λ p i. subst (λ (x : ℕ). p < x) (sym (w .3 .same-size)) (⊎-elim
         (λ j. rw j (w .0))
@@ -119,7 +119,9 @@ flush-done f g off m n c d r x y z t a w = (
   where
     was : f (c .page) ≡ Some c
     was = r .was (c .page) (eq-eqb (c .page) (c .page) refl)
+
     new : g (c .page) ≡ Some d
     new = subst (λ (p : ℕ). g p ≡ Some d) x (r .new)
+
     others : (p : ℕ) → (p ≡ c .page → ⊥) → g p ≡ f p
     others p e = r .others p (λ i. e (i ∙ x)) (ne-eqb (c .page) p (λ i. e (sym i)))

@@ -39,46 +39,49 @@ keeps-but q m n a =
 
 -- the device lost its power while a slot was made free
 pub store-lost : {B : Type 0} {past : B → History → Type 0} {medium : B → Medium} {c d : Cache B} (q : ℕ) (b : List ℕ) (y : DeviceFault)
-  → q < medium (c .below) .size → Goes past medium c (Err y) d
-  → Happens (cachePast past medium c) (cacheMedium medium c) (did-write q b (Err y)) (cachePast past medium d) (cacheMedium medium d)
+    → q < medium (c .below) .size → Goes past medium c (Err y) d
+    → Happens (cachePast past medium c) (cacheMedium medium c) (did-write q b (Err y)) (cachePast past medium d) (cacheMedium medium d)
 store-lost q b Outside l h = record { follows = λ _ a. absurd (h .follows a .0) }
-store-lost {medium = medium} {c = c} {d = d} q b Off l h = record { follows = λ _ a.
-    let u = h .follows a in
-    ((l, u .0 .0, inr (u .0 .1 .same-bytes q), keeps-but q (cacheMedium medium c) (cacheMedium medium d) (u .0 .1)), u .1) }
+store-lost {medium = medium} {c = c} {d = d} q b Off l h = record {
+  follows = λ _ a.
+      let u = h .follows a in
+      ((l, u .0 .0, inr (u .0 .1 .same-bytes q), keeps-but q (cacheMedium medium c) (cacheMedium medium d) (u .0 .1)), u .1);
+}
 
 pub store-done : {B : Type 0} {past : B → History → Type 0} {medium : B → Medium} {c d : Cache B} {t : Slots} (i : ℕ) (k : Copied)
-  → admitted (medium (c .below) .size) (c .off) (k .page) ≡ Ok tt → Goes past medium c (Ok tt) d
-  → Placed (c .slots .pages) (k .page) i (d .slots .pages)
-  → Replaces (slotAt (d .slots .pages) i) k (copiesOf d) (copyOf (t .pages)) → k .changed ≡ true
-  → Happens (cachePast past medium c) (cacheMedium medium c) (did-write (k .page) (k .bytes) (Ok tt)) (cachePast past medium (record { below = d .below; slots = t; off = d .off })) (cacheMedium medium (record { below = d .below; slots = t; off = d .off }))
-store-done {medium = medium} {c = c} {d = d} {t = t} i k e x p r ch = record { follows = λ g a.
-    let u = x .follows a in
-    let ok = admitted-ok (medium (c .below) .size) (c .off) (k .page) e in
-    let m₁ = medium (d .below) in
-    let was : medium (c .below) .on ≡ true = a .agrees .knows-on (ok .1) (omega (arith, ok .0)) in
-    let l : k .page < m₁ .size = rw (u .0 .2 .same-size) (ok .0) in
-    let tk = take-written (copiesOf d) (copyOf (t .pages)) (d .off) m₁ (slotAt (d .slots .pages) i) k (u .1 .agrees) r (p .clean) ch l in
-    (
-      (
-        ok .0,
-        record { was-on = was; is-on = u .0 .0 ∙ was },
-        ap (λ (o : Option Copied). shown o (m₁ .bytes (k .page))) (r .new),
-        keeps-but-more (k .page) (cacheMedium medium c) (cacheMedium medium d) (over (copyOf (t .pages)) m₁) (u .0 .2) (tk .0),
-      ),
-      record { led = u .1 .led; is-past = u .1 .is-past; agrees = tk .1 },
-    ) }
+    → admitted (medium (c .below) .size) (c .off) (k .page) ≡ Ok tt → Goes past medium c (Ok tt) d
+    → Placed (c .slots .pages) (k .page) i (d .slots .pages)
+    → Replaces (slotAt (d .slots .pages) i) k (copiesOf d) (copyOf (t .pages)) → k .changed ≡ true
+    → Happens (cachePast past medium c) (cacheMedium medium c) (did-write (k .page) (k .bytes) (Ok tt)) (cachePast past medium (record { below = d .below; slots = t; off = d .off })) (cacheMedium medium (record { below = d .below; slots = t; off = d .off }))
+store-done {medium = medium} {c = c} {d = d} {t = t} i k e x p r ch = record {
+  follows = λ g a.
+      let u = x .follows a in
+      let ok = admitted-ok (medium (c .below) .size) (c .off) (k .page) e in
+      let m₁ = medium (d .below) in
+      let was : medium (c .below) .on ≡ true = a .agrees .knows-on (ok .1) (omega (arith, ok .0)) in
+      let l : k .page < m₁ .size = rw (u .0 .2 .same-size) (ok .0) in
+      let tk = take-written (copiesOf d) (copyOf (t .pages)) (d .off) m₁ (slotAt (d .slots .pages) i) k (u .1 .agrees) r (p .clean) ch l in (
+        (
+          ok .0,
+          record { was-on = was; is-on = u .0 .0 ∙ was },
+          ap (λ (o : Option Copied). shown o (m₁ .bytes (k .page))) (r .new),
+          keeps-but-more (k .page) (cacheMedium medium c) (cacheMedium medium d) (over (copyOf (t .pages)) m₁) (u .0 .2) (tk .0),
+        ),
+        record { led = u .1 .led; is-past = u .1 .is-past; agrees = tk .1 },
+      );
+}
 
 pub stores-lost : {B : Type 0} {past : B → History → Type 0} {medium : B → Medium} {c d : Cache B} (q : ℕ) (b : List ℕ) (y : DeviceFault)
-  → admitted (medium (c .below) .size) (c .off) q ≡ Ok tt → Finding past medium c q (Err y) d → CacheWrites medium c q b (Err y) d
+    → admitted (medium (c .below) .size) (c .off) q ≡ Ok tt → Finding past medium c q (Err y) d → CacheWrites medium c q b (Err y) d
 stores-lost q b y e h = record {
   writes = rw e (record { holds-it = settled-same _ _ (h .places); no-call = λ z. absurd (both-ways false refl (h .quiet z .0)) });
   holds-it = λ z. absurd (let n : _≡_ {A = ℕ} 0 1 = cc in omega arith);
 }
 
 pub stores-done : {B : Type 0} {past : B → History → Type 0} {medium : B → Medium} {c d : Cache B} {t : Slots} (i : ℕ) (k : Copied)
-  → admitted (medium (c .below) .size) (c .off) (k .page) ≡ Ok tt → Finding past medium c (k .page) (Ok i) d
-  → Replaces (slotAt (d .slots .pages) i) k (copiesOf d) (copyOf (t .pages)) → k .changed ≡ true
-  → CacheWrites medium c (k .page) (k .bytes) (Ok tt) (record { below = d .below; slots = t; off = d .off })
+    → admitted (medium (c .below) .size) (c .off) (k .page) ≡ Ok tt → Finding past medium c (k .page) (Ok i) d
+    → Replaces (slotAt (d .slots .pages) i) k (copiesOf d) (copyOf (t .pages)) → k .changed ≡ true
+    → CacheWrites medium c (k .page) (k .bytes) (Ok tt) (record { below = d .below; slots = t; off = d .off })
 stores-done {B = B} {c = c} {d = d} {t = t} i k e h r ch = record {
   writes = rw e (record {
     holds-it = (r .new ∙ ap (λ (b : Bool). Some (record { page = k .page; changed = b; bytes = k .bytes })) ch, displaces-put (h .places) r);

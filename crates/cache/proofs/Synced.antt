@@ -50,15 +50,15 @@ flushed-all ss ts a h p = ⊎-elim
 
 -- one slot more
 clean-set : (ss : List (Option Copied)) (k : ℕ) → k < length ss → ((i : ℕ) → i < k → isChanged (slotAt ss i) ≡ false)
-  → (i : ℕ) → i < k + 1 → isChanged (slotAt (set ss k (cleaned (slotAt ss k))) i) ≡ false
+    → (i : ℕ) → i < k + 1 → isChanged (slotAt (set ss k (cleaned (slotAt ss k))) i) ≡ false
 clean-set ss k l h i j = ⊎-elim
     (λ e. rw e (ap isChanged (getD-set-same ss k (cleaned (slotAt ss k)) None l) ∙ changed-cleaned (slotAt ss k)))
     (λ e. ap isChanged (getD-set-other ss k i (cleaned (slotAt ss k)) None e) ∙ h i (omega arith))
     (cases-eq i k)
 
 pub flushed-more : {B : Type 0} {past : B → History → Type 0} {medium : B → Medium} {c d e : Cache B} (k : ℕ) → k < 8
-  → FlushedTo past medium c k d → Goes past medium d (Ok tt) e → e .slots .pages ≡ flushed (Ok tt) (d .slots .pages) k
-  → (isChanged (slotAt (d .slots .pages) k) ≡ false → e ≡ d) → FlushedTo past medium c (k + 1) e
+    → FlushedTo past medium c k d → Goes past medium d (Ok tt) e → e .slots .pages ≡ flushed (Ok tt) (d .slots .pages) k
+    → (isChanged (slotAt (d .slots .pages) k) ≡ false → e ≡ d) → FlushedTo past medium c (k + 1) e
 flushed-more {B = B} {c = c} {d = d} {e = e} k w f x s q = record {
   goes = goes-more (Ok tt) (f .goes) x;
   settled = settled-more (c .slots .pages) (d .slots .pages) (e .slots .pages) (f .settled) (subst (Settled (d .slots .pages)) (sym s) (settled-set (d .slots) k w));
@@ -67,8 +67,8 @@ flushed-more {B = B} {c = c} {d = d} {e = e} k w f x s q = record {
 }
 
 pub flushed-lost : {B : Type 0} {past : B → History → Type 0} {medium : B → Medium} {c d e : Cache B} (k : ℕ) (y : DeviceFault)
-  → FlushedTo past medium c k d → Goes past medium d (Err y) e → e .slots .pages ≡ d .slots .pages
-  → (isChanged (slotAt (d .slots .pages) k) ≡ false → _≡_ {A = Result (Unit {0}) DeviceFault} (Err y) (Ok tt)) → FlushesAll past medium c (Err y) e
+    → FlushedTo past medium c k d → Goes past medium d (Err y) e → e .slots .pages ≡ d .slots .pages
+    → (isChanged (slotAt (d .slots .pages) k) ≡ false → _≡_ {A = Result (Unit {0}) DeviceFault} (Err y) (Ok tt)) → FlushesAll past medium c (Err y) e
 flushed-lost {B = B} {c = c} {d = d} {e = e} k y f x s q = record {
   goes = goes-more (Err y) (f .goes) x;
   flushes = settled-more (c .slots .pages) (d .slots .pages) (e .slots .pages) (f .settled) (settled-same _ _ s);
@@ -77,7 +77,7 @@ flushed-lost {B = B} {c = c} {d = d} {e = e} k y f x s q = record {
 }
 
 pub flushed-done : {B : Type 0} {past : B → History → Type 0} {medium : B → Medium} {c d : Cache B} (k : ℕ) → 8 ≤ k
-  → FlushedTo past medium c k d → FlushesAll past medium c (Ok tt) d
+    → FlushedTo past medium c k d → FlushesAll past medium c (Ok tt) d
 flushed-done {c = c} {d = d} k w f = record {
   goes = f .goes;
   flushes = flushed-all (c .slots .pages) (d .slots .pages) (f .settled) all;
@@ -92,47 +92,50 @@ flushed-done {c = c} {d = d} k w f = record {
         (cases-lt i 8)
 
 pub sync-refused : {B : Type 0} {past : B → History → Type 0} {medium : B → Medium} {c d : Cache B} (y : DeviceFault)
-  → Goes past medium c (Err y) d
-  → Happens (cachePast past medium c) (cacheMedium medium c) (did-sync (Err y)) (cachePast past medium d) (cacheMedium medium d)
+    → Goes past medium c (Err y) d
+    → Happens (cachePast past medium c) (cacheMedium medium c) (did-sync (Err y)) (cachePast past medium d) (cacheMedium medium d)
 sync-refused Outside h = record { follows = λ _ a. absurd (h .follows a .0) }
 sync-refused Off h = record { follows = λ _ a. let u = h .follows a in (u .0, u .1) }
 
 pub sync-done : {B : Type 0} {past : B → History → Type 0} {medium : B → Medium} {c d e : Cache B} (r : Result Unit DeviceFault)
-  → Goes past medium c (Ok tt) d → Clean (d .slots .pages) → Passes past medium d (did-sync r) r e
-  → Happens (cachePast past medium c) (cacheMedium medium c) (did-sync r) (cachePast past medium e) (cacheMedium medium e)
-sync-done {medium = medium} {c = c} {d = d} {e = e} (Ok _) x h p = record { follows = λ _ a.
-    let u = x .follows a in
-    let w = p .happens .follows (u .1 .led) (u .1 .is-past) in
-    let f = copiesOf d in let m = medium (d .below) in let n = medium (e .below) in
-    let v = ap (λ (s : Slots). copyOf (s .pages)) (p .same-slots) in
-    (
-      rw v (
-        record { was-on = sym (u .0 .0) ∙ w .0 .0 .was-on; is-on = w .0 .0 .is-on },
-        λ q. or-from (isChanged (f q)) (n .volatile q) (clean-copy (d .slots .pages) h q) (w .0 .1 q),
-        keeps-more (cacheMedium medium c) (over f m) (over f n) (u .0 .2) (over-keeps f m n (w .0 .2)),
-      ),
-      record { led = _; is-past = w .1; agrees = rw (v, p .learns) (agrees-keeps f (d .off) (d .off) m n (w .0 .2) (λ z. absurd (both-ways (m .on) (u .1 .agrees .knows-off z) (w .0 .0 .was-on))) (λ _ _. w .0 .0 .is-on) (u .1 .agrees)) },
-    ) }
+    → Goes past medium c (Ok tt) d → Clean (d .slots .pages) → Passes past medium d (did-sync r) r e
+    → Happens (cachePast past medium c) (cacheMedium medium c) (did-sync r) (cachePast past medium e) (cacheMedium medium e)
+sync-done {medium = medium} {c = c} {d = d} {e = e} (Ok _) x h p = record {
+  follows = λ _ a.
+      let u = x .follows a in
+      let w = p .happens .follows (u .1 .led) (u .1 .is-past) in
+      let f = copiesOf d in let m = medium (d .below) in let n = medium (e .below) in
+      let v = ap (λ (s : Slots). copyOf (s .pages)) (p .same-slots) in (
+        rw v (
+          record { was-on = sym (u .0 .0) ∙ w .0 .0 .was-on; is-on = w .0 .0 .is-on },
+          λ q. or-from (isChanged (f q)) (n .volatile q) (clean-copy (d .slots .pages) h q) (w .0 .1 q),
+          keeps-more (cacheMedium medium c) (over f m) (over f n) (u .0 .2) (over-keeps f m n (w .0 .2)),
+        ),
+        record { led = _; is-past = w .1; agrees = rw (v, p .learns) (agrees-keeps f (d .off) (d .off) m n (w .0 .2) (λ z. absurd (both-ways (m .on) (u .1 .agrees .knows-off z) (w .0 .0 .was-on))) (λ _ _. w .0 .0 .is-on) (u .1 .agrees)) },
+      );
+}
 sync-done (Err Outside) x h p = record { follows = λ _ a. let u = x .follows a in absurd (p .happens .follows (u .1 .led) (u .1 .is-past) .0) }
-sync-done {past = past} {medium = medium} {c = c} {d = d} {e = e} (Err Off) x h p = sync-refused {c = c} Off (goes-more {d = d} (Err Off) x (record { follows = λ a.
-    let w = p .happens .follows (a .led) (a .is-past) in
-    let f = copiesOf d in let m = medium (d .below) in let n = medium (e .below) in
-    let v = ap (λ (s : Slots). copyOf (s .pages)) (p .same-slots) in
-    (
-      rw v (record { is-off = w .0 .0 .is-off; still = λ z. ap (over f) (w .0 .0 .still z) }, over-keeps f m n (w .0 .1)),
-      record { led = _; is-past = w .1; agrees = rw (v, p .learns) (agrees-keeps f (d .off) true m n (w .0 .1) (λ _. w .0 .0 .is-off) (λ z. absurd (both-ways true z refl)) (a .agrees)) },
-    ) }))
+sync-done {past = past} {medium = medium} {c = c} {d = d} {e = e} (Err Off) x h p = sync-refused {c = c} Off (goes-more {d = d} (Err Off) x (record {
+  follows = λ a.
+      let w = p .happens .follows (a .led) (a .is-past) in
+      let f = copiesOf d in let m = medium (d .below) in let n = medium (e .below) in
+      let v = ap (λ (s : Slots). copyOf (s .pages)) (p .same-slots) in (
+        rw v (record { is-off = w .0 .0 .is-off; still = λ z. ap (over f) (w .0 .0 .still z) }, over-keeps f m n (w .0 .1)),
+        record { led = _; is-past = w .1; agrees = rw (v, p .learns) (agrees-keeps f (d .off) true m n (w .0 .1) (λ _. w .0 .0 .is-off) (λ z. absurd (both-ways true z refl)) (a .agrees)) },
+      );
+}))
 
 pub syncs-lost : {B : Type 0} {past : B → History → Type 0} {medium : B → Medium} {c d : Cache B} (y : DeviceFault)
-  → FlushesAll past medium c (Err y) d → Syncing past medium false c (Err y) d
+    → FlushesAll past medium c (Err y) d → Syncing past medium false c (Err y) d
 syncs-lost y f = (f .flushes, λ z. absurd (let w = f .quiet z .0 in let n : _≡_ {A = ℕ} 0 1 = cc in omega arith))
 
 pub syncs-done : {B : Type 0} {past : B → History → Type 0} {medium : B → Medium} {c d e : Cache B} (r : Result Unit DeviceFault)
-  → FlushesAll past medium c (Ok tt) d → Passes past medium d (did-sync r) r e → Syncing past medium false c r e
+    → FlushesAll past medium c (Ok tt) d → Passes past medium d (did-sync r) r e → Syncing past medium false c r e
 syncs-done {c = c} {d = d} {e = e} r f p = (go r, λ z. calls-same (f .quiet z .1) p)
   where
     same : e .slots .pages ≡ d .slots .pages
     same = ap (λ (s : Slots). s .pages) (p .same-slots)
+
     go : (r : Result Unit DeviceFault) → Flushed (c .slots .pages) r (e .slots .pages)
     go (Ok _) = λ q. ap (λ (ss : List (Option Copied)). copyOf ss q) same ∙ f .flushes q
     go (Err _) = λ q. inr (ap (λ (ss : List (Option Copied)). copyOf ss q) same ∙ f .flushes q)

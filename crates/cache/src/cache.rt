@@ -8,7 +8,6 @@ pub use calls::CacheDevice;
 pub use calls::CachePowerCycle;
 pub use calls::CacheReader;
 
-
 // Up to eight pages of a device, held in memory. A write stays there until the next sync, or until its slot is
 // wanted for another page.
 #[derive(Drop)]

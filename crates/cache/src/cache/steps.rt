@@ -19,7 +19,7 @@ use device::Reader;
 
 impl<D: Device> Cache<D> {
     // Remembers it if the device says that it is off.
-    pub fn heard(&mut self, answer: Result<(), DeviceFault>) -> Result<(), DeviceFault>
+    pub(super) fn heard(&mut self, answer: Result<(), DeviceFault>) -> Result<(), DeviceFault>
         ensures value { λ r. ⌜ r ≡ answer ⌝ }
         ensures below { λ _. ⌜ now (self .exit) .below ≡ now (self .entry) .below ⌝ }
         ensures slots { λ _. ⌜ now (self .exit) .slots ≡ now (self .entry) .slots ⌝ }
@@ -31,21 +31,21 @@ impl<D: Device> Cache<D> {
         answer
     }
 
-    pub fn read_below(&mut self, page: u32, buffer: &mut Page) -> Result<(), DeviceFault>
+    fn read_below(&mut self, page: u32, buffer: &mut Page) -> Result<(), DeviceFault>
         ensures { λ r. ⌜ Passes (D·Reader .past) (D·Reader .medium) (now (self .entry)) (did-read page (now (buffer .exit)) r) r (now (self .exit)) ⌝ }
     {
         let answer = self.below.read(page, buffer);
         self.heard(answer)
     }
 
-    pub fn write_below(&mut self, page: u32, bytes: &Page) -> Result<(), DeviceFault>
+    fn write_below(&mut self, page: u32, bytes: &Page) -> Result<(), DeviceFault>
         ensures { λ r. ⌜ Passes (D·Reader .past) (D·Reader .medium) (now (self .entry)) (did-write page (now (bytes .entry)) r) r (now (self .exit)) ⌝ }
     {
         let answer = self.below.write(page, bytes);
         self.heard(answer)
     }
 
-    pub fn sync_below(&mut self) -> Result<(), DeviceFault>
+    pub(super) fn sync_below(&mut self) -> Result<(), DeviceFault>
         ensures { λ r. ⌜ Passes (D·Reader .past) (D·Reader .medium) (now (self .entry)) (did-sync r) r (now (self .exit)) ⌝ }
     {
         let answer = self.below.sync();
@@ -53,7 +53,7 @@ impl<D: Device> Cache<D> {
     }
 
     // Writes a changed page below. If that fails, the page stays changed.
-    pub fn flush(&mut self, i: usize) -> Result<(), DeviceFault>
+    fn flush(&mut self, i: usize) -> Result<(), DeviceFault>
         requires { ⌜ i < 8 ⌝ }
         ensures slots { λ r. ⌜ now (self .exit) .slots .pages ≡ flushed r (now (self .entry) .slots .pages) i ⌝ }
         ensures clean { λ r. ⌜ (isChanged (slotAt (now (self .entry) .slots .pages) i) ≡ false → (r ≡ Ok tt) × (now (self .exit) ≡ now (self .entry))) ⌝ }
@@ -76,7 +76,7 @@ impl<D: Device> Cache<D> {
     }
 
     // Refuses a page outside the device, and then every page if the device is off.
-    pub fn admit(&self, page: u32) -> Result<(), DeviceFault>
+    pub(super) fn admit(&self, page: u32) -> Result<(), DeviceFault>
         ensures { λ r. ⌜ r ≡ admitted (D·Reader .medium (now (self .entry) .below) .size) (now (self .entry) .off) page ⌝ }
     {
         if page >= self.below.pages() {
@@ -89,7 +89,7 @@ impl<D: Device> Cache<D> {
     }
 
     // Copies the page in a slot into the buffer.
-    pub fn show(&mut self, i: usize, buffer: &mut Page)
+    pub(super) fn show(&mut self, i: usize, buffer: &mut Page)
         requires within { ⌜ i < 8 ⌝ }
         ensures below { λ _. ⌜ now (self .exit) .below ≡ now (self .entry) .below ⌝ }
         ensures pages { λ _. ⌜ now (self .exit) .slots .pages ≡ now (self .entry) .slots .pages ⌝ }
@@ -104,7 +104,7 @@ impl<D: Device> Cache<D> {
     }
 
     // A slot for a page that is not held. A changed page that leaves it is written below first.
-    pub fn room(&mut self) -> Result<usize, DeviceFault>
+    fn room(&mut self) -> Result<usize, DeviceFault>
         ensures { λ r. ⌜ Rooms (D·Reader .past) (D·Reader .medium) (now (self .entry)) r (now (self .exit)) ⌝ }
     {
         let i = self.slots.oldest();
@@ -113,7 +113,7 @@ impl<D: Device> Cache<D> {
     }
 
     // The slot that has the page, or one that it may go to.
-    pub fn slot_for(&mut self, page: u32) -> Result<usize, DeviceFault>
+    pub(super) fn slot_for(&mut self, page: u32) -> Result<usize, DeviceFault>
         ensures { λ r. ⌜ Finding (D·Reader .past) (D·Reader .medium) (now (self .entry)) page r (now (self .exit)) ⌝ }
     {
         match self.slots.find(page) {
@@ -123,7 +123,7 @@ impl<D: Device> Cache<D> {
     }
 
     // Reads a page that is not held below, and holds it.
-    pub fn fetch(&mut self, page: u32, buffer: &mut Page) -> Result<(), DeviceFault>
+    pub(super) fn fetch(&mut self, page: u32, buffer: &mut Page) -> Result<(), DeviceFault>
         requires admits { ⌜ admitted (D·Reader .medium (now self .below) .size) (now self .off) page ≡ Ok tt ⌝ }
         requires misses { ⌜ copiesOf (now self) page ≡ None ⌝ }
         requires clear { ⌜ now buffer ≡ zeros ⌝ }
@@ -144,11 +144,11 @@ impl<D: Device> Cache<D> {
     }
 
     // Writes every changed page below.
-    pub fn flush_all(&mut self) -> Result<(), DeviceFault>
+    pub(super) fn flush_all(&mut self) -> Result<(), DeviceFault>
         ensures { λ r. ⌜ FlushesAll (D·Reader .past) (D·Reader .medium) (now (self .entry)) r (now (self .exit)) ⌝ }
     {
-        for i in 0..SLOTS {
-            self.flush(i)?;
+        for slot in 0..SLOTS {
+            self.flush(slot)?;
         }
         Ok(())
     }

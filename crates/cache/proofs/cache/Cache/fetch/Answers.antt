@@ -45,6 +45,6 @@ returns g c =
     let ss = c .read-below .last .self .slots .pages in
     let k : Copied = record { page = c .args .page; changed = false; bytes = c .read-below .last .buffer } in
     let r : Replaces (slotAt ss i) k (copyOf ss) (copyOf (c .touch .last .self .pages)) =
-        subst (λ (ts : List (Option Copied)). Replaces (slotAt ss i) k (copyOf ss) (copyOf ts)) (sym (c .touch .ensures)) (c .put .ensures .replaces) in
+    subst (λ (ts : List (Option Copied)). Replaces (slotAt ss i) k (copyOf ss) (copyOf ts)) (sym (c .touch .ensures)) (c .put .ensures .replaces) in
     let f = fetches-done {t = c .touch .last .self} i k h p (c .pre .misses) refl r in
     record { meaning = f .0; fetches = record { holds-it = (f .1, f .2); one-call = f .3 } }

@@ -6,12 +6,12 @@ pub returns-in-Break-flush : need.returns-in-Break-flush
 returns-in-Break-flush g c =
     let q = err-from-errBy (c .from-residual .result) (c .from-residual .ensures .1) in
     let f = c .in-Break-flush .ensures tt in
-    rw (q .1, q .2) (flushed-lost (c .loop-i .i) _ (c .loop-i .inv) (f .meaning) (f .slots) (λ z. f .clean z .0))
+    rw (q .1, q .2) (flushed-lost (c .loop-slot .slot) _ (c .loop-slot .inv) (f .meaning) (f .slots) (λ z. f .clean z .0))
 
-pub loop-i-again : need.loop-i-again
-loop-i-again g c =
+pub loop-slot-again : need.loop-slot-again
+loop-slot-again g c =
     let f = c .in-Continue-flush .ensures tt in
-    flushed-more (c .loop-i .i) (c .loop-i-test .taken) (c .loop-i .inv) (f .meaning) (f .slots) (λ z. f .clean z .1)
+    flushed-more (c .loop-slot .slot) (c .loop-slot-test .taken) (c .loop-slot .inv) (f .meaning) (f .slots) (λ z. f .clean z .1)
 
 pub returns : need.returns
-returns g c = flushed-done (c .loop-i .i) (c .loop-i-test .left) (c .loop-i .inv)
+returns g c = flushed-done (c .loop-slot .slot) (c .loop-slot-test .left) (c .loop-slot .inv)

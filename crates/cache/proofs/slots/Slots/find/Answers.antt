@@ -20,7 +20,7 @@ returns-then-copy-page c =
     let l : c .loop-i .i < length ss = omega arith in
     let e : slotAt ss (c .loop-i .i) ≡ Some (c .in-Some .copy) = c .in-Some .is in
     let h : has (slotAt ss (c .loop-i .i)) (c .args .page) ≡ true =
-        ap (λ (s : Option Copied). has s (c .args .page)) e ∙ eq-eqb _ _ (c .if-copy-page .taken) in
+    ap (λ (s : Option Copied). has s (c .args .page)) e ∙ eq-eqb _ _ (c .if-copy-page .taken) in
     (l, h, copy-at ss (c .loop-i .i) (c .args .page) (c .args .self .now .distinct (c .args .page)) h)
 
 pub loop-i-again : need.loop-i-again
@@ -28,10 +28,10 @@ loop-i-again c =
     let ss = c .args .self .now .pages in
     let l : c .loop-i .i < length ss = omega arith in
     let h : has (slotAt ss (c .loop-i .i)) (c .args .page) ≡ false =
-        elim (c .match-slot .came) [
-          in-Some·else-copy-page w ↦ ap (λ (s : Option Copied). has s (c .args .page)) (w .in-Some .is) ∙ ne-eqb _ _ (w .if-copy-page .left)
-        | in-rest w ↦ ap (λ (s : Option Copied). has s (c .args .page)) (w .in-rest .is)
-        ] in
+    elim (c .match-slot .came) [
+      | in-Some·else-copy-page w ↦ ap (λ (s : Option Copied). has s (c .args .page)) (w .in-Some .is) ∙ ne-eqb _ _ (w .if-copy-page .left)
+      | in-rest w ↦ ap (λ (s : Option Copied). has s (c .args .page)) (w .in-rest .is)
+    ] in
     c .loop-i .inv ∙ search-more ss (c .loop-i .i) (c .args .page) l h
 
 pub returns : need.returns

@@ -27,7 +27,7 @@ returns g c =
     let ss = c .slot-for .last .self .slots .pages in
     let k : Copied = record { page = c .args .page; changed = true; bytes = c .args .bytes .now } in
     let r : Replaces (slotAt ss i) k (copyOf ss) (copyOf (c .touch .last .self .pages)) =
-        subst (λ (ts : List (Option Copied)). Replaces (slotAt ss i) k (copyOf ss) (copyOf ts)) (sym (c .touch .ensures)) (c .put .ensures .replaces) in
+    subst (λ (ts : List (Option Copied)). Replaces (slotAt ss i) k (copyOf ss) (copyOf ts)) (sym (c .touch .ensures)) (c .put .ensures .replaces) in
     record {
       meaning = store-done {t = c .touch .last .self} i k e (f .goes) (f .places) r refl;
       settled = stores-done {t = c .touch .last .self} i k e f r refl;
