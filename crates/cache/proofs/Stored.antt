@@ -6,7 +6,6 @@ use mathlib.Core.Logic.{inl, inr}
 use mathlib.Core.List.{List}
 use native.Mathlib.Omega.{arith}
 use Rattle.std.proofs.shelf.Tests.{both-ways}
-use Rattle.std.specs.Options.{isSome}
 use Rattle.std.specs.declared.option.Option.{Option}
 use Rattle.std.specs.declared.option.Option.the-variants.{Some, None}
 use Rattle.std.specs.declared.result.Result.{Result}
@@ -21,7 +20,7 @@ use Rattle.cache.specs.declared.cache.Cache.{Cache}
 use Rattle.cache.specs.declared.slots.Slots.{Slots}
 use Rattle.cache.specs.Held.{copyOf, slotAt, Replaces}
 use Rattle.cache.specs.Cached.{shown, over, copiesOf, cacheMedium, cachePast}
-use Rattle.cache.specs.Calls.{admitted, Stores, CacheWrites}
+use Rattle.cache.specs.Calls.{admitted, Stores}
 use Rattle.cache.specs.Inner.{Goes, Placed, Finding}
 use Rattle.cache.proofs.Takes.{take-written}
 use Rattle.cache.proofs.Fetched.{admitted-ok, displaces-put, settled-same}
@@ -72,20 +71,17 @@ store-done {medium = medium} {c = c} {d = d} {t = t} i k e x p r ch = record {
 }
 
 pub stores-lost : {B : Type 0} {past : B → History → Type 0} {medium : B → Medium} {c d : Cache B} (q : ℕ) (b : List ℕ) (y : DeviceFault)
-    → admitted (medium (c .below) .size) (c .off) q ≡ Ok tt → Finding past medium c q (Err y) d → CacheWrites medium c q b (Err y) d
-stores-lost q b y e h = record {
-  writes = rw e (record { holds-it = settled-same _ _ (h .places); no-call = λ z. absurd (both-ways false refl (h .quiet z .0)) });
-  holds-it = λ z. absurd (let n : _≡_ {A = ℕ} 0 1 = cc in omega arith);
+    → Finding past medium c q (Err y) d → Stores c q b (Err y) d
+stores-lost q b y h = record {
+  holds-it = settled-same _ _ (h .places);
+  no-call = λ z. absurd (both-ways false refl (h .quiet z .0));
 }
 
 pub stores-done : {B : Type 0} {past : B → History → Type 0} {medium : B → Medium} {c d : Cache B} {t : Slots} (i : ℕ) (k : Copied)
-    → admitted (medium (c .below) .size) (c .off) (k .page) ≡ Ok tt → Finding past medium c (k .page) (Ok i) d
+    → Finding past medium c (k .page) (Ok i) d
     → Replaces (slotAt (d .slots .pages) i) k (copiesOf d) (copyOf (t .pages)) → k .changed ≡ true
-    → CacheWrites medium c (k .page) (k .bytes) (Ok tt) (record { below = d .below; slots = t; off = d .off })
-stores-done {B = B} {c = c} {d = d} {t = t} i k e h r ch = record {
-  writes = rw e (record {
-    holds-it = (r .new ∙ ap (λ (b : Bool). Some (record { page = k .page; changed = b; bytes = k .bytes })) ch, displaces-put (h .places) r);
-    no-call = λ z. let s = h .quiet z .1 in (refl, ap (λ (x : Cache B). x .below) s, ap (λ (x : Cache B). x .off) s);
-  });
-  holds-it = λ _. ap isSome (r .new);
+    → Stores c (k .page) (k .bytes) (Ok tt) (record { below = d .below; slots = t; off = d .off })
+stores-done {B = B} {c = c} {d = d} {t = t} i k h r ch = record {
+  holds-it = (r .new ∙ ap (λ (b : Bool). Some (record { page = k .page; changed = b; bytes = k .bytes })) ch, displaces-put (h .places) r);
+  no-call = λ z. let s = h .quiet z .1 in (refl, ap (λ (x : Cache B). x .below) s, ap (λ (x : Cache B). x .off) s);
 }

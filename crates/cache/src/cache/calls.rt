@@ -8,7 +8,6 @@ ghost use Rattle.cache.specs.Cached.{cacheMedium, cachePast};
 ghost use Rattle.cache.specs.Held.{holds};
 ghost use Rattle.cache.specs.Calls.{CacheReads, CacheWrites, Syncing, CacheReturns, Makes};
 use crate::cache::Cache;
-use crate::copy::Copied;
 use crate::slots::Slots;
 use device::Device;
 use device::DeviceFault;
@@ -77,15 +76,7 @@ pub impl<D: Device> Device for Cache<D> as CacheDevice {
         ensures settled { λ r. ⌜ CacheWrites (D·Reader .medium) (now (self .entry)) page (now (bytes .entry)) r (now (self .exit)) ⌝ }
     {
         self.admit(page)?;
-        let i = self.slot_for(page)?;
-        let copy = Copied {
-            page,
-            changed: true,
-            bytes: *bytes,
-        };
-        self.slots.put(i, copy);
-        self.slots.touch(i);
-        Ok(())
+        self.store(page, bytes)
     }
 
     fn sync(&mut self) -> Result<(), DeviceFault>
@@ -95,8 +86,7 @@ pub impl<D: Device> Device for Cache<D> as CacheDevice {
         if self.off {
             return Err(DeviceFault::Off);
         }
-        self.flush_all()?;
-        self.sync_below()
+        self.settle()
     }
 }
 

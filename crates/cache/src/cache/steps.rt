@@ -7,7 +7,7 @@ ghost use Rattle.device.specs.Medium.{zeros};
 ghost use Rattle.device.specs.History.{Happens, did-read, did-write, did-sync};
 ghost use Rattle.cache.specs.Held.{isChanged, slotAt};
 ghost use Rattle.cache.specs.Cached.{shown, copiesOf, cacheMedium, cachePast};
-ghost use Rattle.cache.specs.Calls.{saysOff, admitted, Fetches};
+ghost use Rattle.cache.specs.Calls.{saysOff, admitted, Fetches, Stores, Syncing};
 ghost use Rattle.cache.specs.Inner.{flushed, Goes, Passes, Rooms, Finding, FlushesAll};
 use crate::cache::Cache;
 use crate::copy::Copied;
@@ -31,7 +31,7 @@ impl<D: Device> Cache<D> {
         answer
     }
 
-    fn read_below(&mut self, page: u32, buffer: &mut Page) -> Result<(), DeviceFault>
+    pub(super) fn read_below(&mut self, page: u32, buffer: &mut Page) -> Result<(), DeviceFault>
         ensures { λ r. ⌜ Passes (D·Reader .past) (D·Reader .medium) (now (self .entry)) (did-read page (now (buffer .exit)) r) r (now (self .exit)) ⌝ }
     {
         let answer = self.below.read(page, buffer);
@@ -113,7 +113,7 @@ impl<D: Device> Cache<D> {
     }
 
     // The slot that has the page, or one that it may go to.
-    pub(super) fn slot_for(&mut self, page: u32) -> Result<usize, DeviceFault>
+    fn slot_for(&mut self, page: u32) -> Result<usize, DeviceFault>
         ensures { λ r. ⌜ Finding (D·Reader .past) (D·Reader .medium) (now (self .entry)) page r (now (self .exit)) ⌝ }
     {
         match self.slots.find(page) {
@@ -143,13 +143,40 @@ impl<D: Device> Cache<D> {
         Ok(())
     }
 
+    // Writes a page to its slot.
+    pub(super) fn store(&mut self, page: u32, bytes: &Page) -> Result<(), DeviceFault>
+        requires { ⌜ admitted (D·Reader .medium (now self .below) .size) (now self .off) page ≡ Ok tt ⌝ }
+        ensures meaning { λ r. ⌜ Happens (cachePast (D·Reader .past) (D·Reader .medium) (now (self .entry))) (cacheMedium (D·Reader .medium) (now (self .entry))) (did-write page (now (bytes .entry)) r) (cachePast (D·Reader .past) (D·Reader .medium) (now (self .exit))) (cacheMedium (D·Reader .medium) (now (self .exit))) ⌝ }
+        ensures stores { λ r. ⌜ Stores (now (self .entry)) page (now (bytes .entry)) r (now (self .exit)) ⌝ }
+    {
+        let i = self.slot_for(page)?;
+        let copy = Copied {
+            page,
+            changed: true,
+            bytes: *bytes,
+        };
+        self.slots.put(i, copy);
+        self.slots.touch(i);
+        Ok(())
+    }
+
     // Writes every changed page below.
-    pub(super) fn flush_all(&mut self) -> Result<(), DeviceFault>
+    fn flush_all(&mut self) -> Result<(), DeviceFault>
         ensures { λ r. ⌜ FlushesAll (D·Reader .past) (D·Reader .medium) (now (self .entry)) r (now (self .exit)) ⌝ }
     {
         for slot in 0..SLOTS {
             self.flush(slot)?;
         }
         Ok(())
+    }
+
+    // Makes every page durable. The changed ones are written below before the device is synced.
+    pub(super) fn settle(&mut self) -> Result<(), DeviceFault>
+        requires { ⌜ now self .off ≡ false ⌝ }
+        ensures meaning { λ r. ⌜ Happens (cachePast (D·Reader .past) (D·Reader .medium) (now (self .entry))) (cacheMedium (D·Reader .medium) (now (self .entry))) (did-sync r) (cachePast (D·Reader .past) (D·Reader .medium) (now (self .exit))) (cacheMedium (D·Reader .medium) (now (self .exit))) ⌝ }
+        ensures settled { λ r. ⌜ Syncing (D·Reader .past) (D·Reader .medium) false (now (self .entry)) r (now (self .exit)) ⌝ }
+    {
+        self.flush_all()?;
+        self.sync_below()
     }
 }

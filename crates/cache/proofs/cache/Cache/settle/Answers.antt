@@ -1,7 +1,7 @@
 use mathlib.Core.Path.{refl}
 use Rattle.std.proofs.shelf.Results.{err-from-errBy}
 use Rattle.cache.proofs.Synced.{sync-refused, sync-done, syncs-lost, syncs-done}
-use Rattle.cache.proofs.cache.calls.CacheDevice.sync.Needs as need
+use Rattle.cache.proofs.cache.Cache.settle.Needs as need
 
 pub returns-in-Break-flush-all : need.returns-in-Break-flush-all
 returns-in-Break-flush-all g c =
@@ -9,7 +9,7 @@ returns-in-Break-flush-all g c =
     let f = c .in-Break-flush-all .ensures tt in
     record {
       meaning = rw (q .1, q .2) (sync-refused _ (f .goes));
-      settled = rw (q .1, q .2, c .if-self .left) (syncs-lost _ f);
+      settled = rw (q .1, q .2) (syncs-lost _ f);
     }
 
 pub returns : need.returns
@@ -17,5 +17,5 @@ returns g c =
     let f = c .in-Continue-flush-all .ensures tt in
     record {
       meaning = sync-done (c .sync-below .result) (f .goes) (f .cleans refl) (c .sync-below .ensures);
-      settled = rw (c .if-self .left) (syncs-done (c .sync-below .result) f (c .sync-below .ensures));
+      settled = syncs-done (c .sync-below .result) f (c .sync-below .ensures);
     }
