@@ -6,8 +6,7 @@ use mathlib.Core.Logic.{⊎-elim}
 use mathlib.Core.List.{List, [], _∷_}
 use native.Mathlib.Omega.{arith}
 use lib.Dec.{eqb}
-use lib.ListN.{length, getD, set, drop}
-use Rattle.std.proofs.shelf.Ways.{tells}
+use lib.ListN.{length, set, drop}
 use Rattle.std.proofs.shelf.Lists.{getD-set-same, drop-more}
 use Rattle.std.proofs.shelf.Tests.{cases-bool, cases-eq, cond-true, cond-false, eq-eqb, ne-eqb, eqb-true}
 use Rattle.std.specs.declared.option.Option.{Option}

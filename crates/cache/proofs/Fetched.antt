@@ -1,33 +1,26 @@
 -- What reading a page below does, whichever way it ends.
-use Prim.Native.Nat.{ℕ, _<_, _≤_}
+use Prim.Native.Nat.{ℕ, _<_}
 use mathlib.Core.Path.{_≡_, refl, sym, _∙_, ap, subst}
 use mathlib.Core.Bool.{Bool, true, false, cond}
-use mathlib.Core.Logic.{inl, inr, ⊎-elim}
 use mathlib.Core.List.{List}
 use native.Mathlib.Omega.{arith}
 use lib.Dec.{ltb}
-use lib.ListN.{length, set}
-use Rattle.std.proofs.shelf.Lists.{getD-set-same}
-use Rattle.std.proofs.shelf.Tests.{both-ways, cases-bool, ltb-true, ltb-false}
-use Rattle.std.specs.Options.{isSome}
+use Rattle.std.proofs.shelf.Tests.{both-ways, ltb-true}
 use Rattle.std.specs.declared.option.Option.{Option}
-use Rattle.std.specs.declared.option.Option.the-variants.{Some, None}
+use Rattle.std.specs.declared.option.Option.the-variants.{None}
 use Rattle.std.specs.declared.result.Result.{Result}
 use Rattle.std.specs.declared.result.Result.the-variants.{Ok, Err}
 use Rattle.device.specs.Medium.{Medium, zeros}
-use Rattle.device.specs.Calls.{Keeps}
-use Rattle.device.specs.History.{History, Event, Happens, did-read, step}
+use Rattle.device.specs.History.{History, Event, Happens, did-read}
 use Rattle.device.specs.declared.fault.DeviceFault.{DeviceFault}
 use Rattle.device.specs.declared.fault.DeviceFault.the-variants.{Outside, Off}
 use Rattle.cache.specs.declared.copy.Copied.{Copied}
 use Rattle.cache.specs.declared.cache.Cache.{Cache}
 use Rattle.cache.specs.declared.slots.Slots.{Slots}
-use Rattle.cache.specs.Held.{has, isChanged, copyOf, slotAt, Roomy, cleaned, Replaces}
-use Rattle.cache.specs.Cached.{over, Agrees, copiesOf, cacheMedium, Stands, cachePast}
-use Rattle.cache.specs.Calls.{admitted, Displaces, Settled, Calls, Fetches}
-use Rattle.cache.specs.Inner.{Settles, Goes, Passes, Rooms, Placed}
-use Rattle.cache.proofs.Copies.{copy-none, copies-none, copy-at, copy-set-other}
-use Rattle.cache.proofs.Places.{has-cleaned, changed-cleaned, copies-cleaned, finding-new}
+use Rattle.cache.specs.Held.{isChanged, copyOf, slotAt, Replaces}
+use Rattle.cache.specs.Cached.{over, copiesOf, cacheMedium, Stands, cachePast}
+use Rattle.cache.specs.Calls.{admitted, Leaves, Settled, Calls, Fetches}
+use Rattle.cache.specs.Inner.{Settles, Goes, Passes, Placed, Finding}
 use Rattle.cache.proofs.Steps.{settles-more, keeps-more}
 use Rattle.cache.proofs.Takes.{over-keeps, agrees-keeps, take-read}
 
@@ -107,12 +100,14 @@ fetch-done {medium = medium} {c = c} {d = d} {e = e} {t = t} o k x h r cl free u
     sh : (k : Copied) (f : Option Copied) → f ≡ None → k .bytes ≡ medium (d .below) .bytes (k .page) → k .bytes ≡ over (λ _. f) (medium (d .below)) .bytes (k .page)
     sh k f z y = rw z y
 
-pub displaces-put : {ss ts us : List (Option Copied)} {i : ℕ} {k : Copied} → Placed ss (k .page) i ts
-    → Replaces (slotAt ts i) k (copyOf ts) (copyOf us) → Displaces ss (k .page) us
-displaces-put p r = record {
-  leaver = p .leaver;
+-- the page that leaves is gone after another took its slot
+pub taken-put : (ss ts us : List (Option Copied)) {i : ℕ} {o : Option Copied} {k : Copied} → Leaves ss (k .page) o → Placed ss (k .page) i o ts
+    → Replaces (slotAt ts i) k (copyOf ts) (copyOf us) → Replaces o k (copyOf ss) (copyOf us)
+taken-put ss ts us l p r = record {
+  was = l .was;
+  new = r .new;
+  gone = λ x n h. r .gone x n (p .there x h);
   others = λ x n h. let z = p .others x n h in r .others x n (z .0) ∙ z .1;
-  only-full = p .only-full;
 }
 
 pub calls-same : {B : Type 0} {past : B → History → Type 0} {medium : B → Medium} {c d e : Cache B} {v : Event} {r : Result Unit DeviceFault}
@@ -120,72 +115,48 @@ pub calls-same : {B : Type 0} {past : B → History → Type 0} {medium : B → 
 calls-same {B = B} {past = past} {medium = medium} {e = e} {v = v} z h =
     subst (λ (x : Cache B). Happens (past (x .below)) (medium (x .below)) v (past (e .below)) (medium (e .below))) z (h .happens)
 
-pub settled-same : (ss ts : List (Option Copied)) → ts ≡ ss → Settled ss ts
-settled-same ss ts e p = inl (ap (λ (xs : List (Option Copied)). copyOf xs p) e)
-
-pub settled-set : (s : Slots) (i : ℕ) → i < 8 → Settled (s .pages) (set (s .pages) i (cleaned (slotAt (s .pages) i)))
-settled-set s i w p = ⊎-elim
-    (λ h. let x = copy-at ss i p (s .distinct p) h in
-    let y = copies-cleaned ss i p l in let d = s .distinct p in
-    let h′ : has (slotAt ts i) p ≡ true = ap (λ (o : Option Copied). has o p) at-i ∙ has-cleaned (slotAt ss i) p ∙ h in
-    let z = copy-at ts i p (omega arith) h′ in
-    inr (z ∙ at-i ∙ ap cleaned (sym x)))
-    (λ h. inl (copy-set-other ss i p (cleaned (slotAt ss i)) (has-cleaned (slotAt ss i) p ∙ h) h))
-    (cases-bool (has (slotAt ss i) p))
-  where
-    ss : List (Option Copied)
-    ss = s .pages
-
-    ts : List (Option Copied)
-    ts = set (s .pages) i (cleaned (slotAt (s .pages) i))
-
-    l : i < length (s .pages)
-    l = omega (arith, s .eight)
-
-    at-i : slotAt (set (s .pages) i (cleaned (slotAt (s .pages) i))) i ≡ cleaned (slotAt (s .pages) i)
-    at-i = getD-set-same (s .pages) i (cleaned (slotAt (s .pages) i)) None (omega (arith, s .eight))
-
 pub fetches-crowded : {B : Type 0} {past : B → History → Type 0} {medium : B → Medium} {c d : Cache B} (q : ℕ) (b : List ℕ) (y : DeviceFault)
-    → Rooms past medium c (Err y) d → Fetches past medium c q b (Err y) d
+    → Finding past medium c q (Err y) d → Fetches past medium c q b (Err y) d
 fetches-crowded q b y h = record {
-  holds-it = settled-same _ _ (h .empties);
+  leaver = h .leaver;
+  leaves = h .leaves;
+  holds-it = h .settled;
   one-call = λ z. absurd (both-ways false refl (h .quiet z .0));
 }
 
 pub fetches-lost : {B : Type 0} {past : B → History → Type 0} {medium : B → Medium} {c d e : Cache B} (q i : ℕ) (b : List ℕ) (y : DeviceFault)
-    → Rooms past medium c (Ok i) d → Passes past medium d (did-read q b (Err y)) (Err y) e → Fetches past medium c q b (Err y) e
-fetches-lost {c = c} {d = d} {e = e} q i b y h p = record {
-  holds-it =
-      let z : e .slots .pages ≡ set (c .slots .pages) i (cleaned (slotAt (c .slots .pages) i)) = ap (λ (s : Slots). s .pages) (p .same-slots) ∙ h .empties .2 in
-      subst (Settled (c .slots .pages)) (sym z) (settled-set (c .slots) i (h .empties .0));
+    → Finding past medium c q (Ok i) d → Passes past medium d (did-read q b (Err y)) (Err y) e → Fetches past medium c q b (Err y) e
+fetches-lost {c = c} q i b y h p = record {
+  leaver = h .leaver;
+  leaves = h .leaves;
+  holds-it = subst (λ (s : Slots). Settled (c .slots .pages) (s .pages)) (sym (p .same-slots)) (h .settled);
   one-call = λ z. calls-same (h .quiet z .1) p;
 }
 
 -- the slot that was found is still there after a call of the device
 pub placed-there : {B : Type 0} {past : B → History → Type 0} {medium : B → Medium} {c d e : Cache B} {v : Event} {r : Result Unit DeviceFault} (q i : ℕ)
-    → copiesOf c q ≡ None → Rooms past medium c (Ok i) d → Passes past medium d v r e → Placed (c .slots .pages) q i (e .slots .pages)
-placed-there {c = c} q i free h p =
-    subst (λ (s : Slots). Placed (c .slots .pages) q i (s .pages)) (sym (p .same-slots)) (finding-new q (Ok i) free h .places)
+    → (h : Finding past medium c q (Ok i) d) → Passes past medium d v r e → Placed (c .slots .pages) q i (h .leaver) (e .slots .pages)
+placed-there {c = c} q i h p =
+    subst (λ (s : Slots). Placed (c .slots .pages) q i (h .leaver) (s .pages)) (sym (p .same-slots)) (h .places)
 
 pub fetches-done : {B : Type 0} {past : B → History → Type 0} {medium : B → Medium} {c d e : Cache B} {t : Slots} (i : ℕ) (k : Copied)
-    → Rooms past medium c (Ok i) d → Passes past medium d (did-read (k .page) (k .bytes) (Ok tt)) (Ok tt) e
+    → Finding past medium c (k .page) (Ok i) d → Passes past medium d (did-read (k .page) (k .bytes) (Ok tt)) (Ok tt) e
     → copiesOf c (k .page) ≡ None → k .changed ≡ false
     → Replaces (slotAt (e .slots .pages) i) k (copiesOf e) (copyOf (t .pages))
     → Happens (cachePast past medium c) (cacheMedium medium c) (did-read (k .page) (k .bytes) (Ok tt)) (cachePast past medium (record { below = e .below; slots = t; off = e .off })) (cacheMedium medium (record { below = e .below; slots = t; off = e .off }))
-    × (copyOf (t .pages) (k .page) ≡ Some k) × Displaces (c .slots .pages) (k .page) (t .pages)
-    × (Roomy (c .slots .pages) → Calls past medium c (did-read (k .page) (k .bytes) (Ok tt)) e)
+    × Fetches past medium c (k .page) (k .bytes) (Ok tt) (record { below = e .below; slots = t; off = e .off })
 fetches-done {past = past} {medium = medium} {c = c} {d = d} {e = e} {t = t} i k h p free un r =
-    let pl = placed-there (k .page) i free h p in
-    let v = p .same-slots in
-    let o = slotAt (d .slots .pages) i in
-    let r′ : Replaces o k (copiesOf d) (copyOf (t .pages)) = subst (λ (s : Slots). Replaces (slotAt (s .pages) i) k (copyOf (s .pages)) (copyOf (t .pages))) v r in
-    let x = ap (λ (ss : List (Option Copied)). slotAt ss i) (h .empties .2) ∙ slot-cleaned (c .slots) i (h .empties .0) in
-    let cl : isChanged o ≡ false = ap isChanged x ∙ changed-cleaned (slotAt (c .slots .pages) i) in
-    let free′ : copiesOf d (k .page) ≡ None = still-free (c .slots) (d .slots .pages) i (k .page) (h .empties .0) (h .empties .2) free in
-    (fetch-done {past = past} {medium = medium} {c = c} {d = d} {e = e} {t = t} o k (h .goes) p r′ cl free′ un, r .new, displaces-put pl r, λ z. calls-same (h .quiet z .1) p)
-  where
-    slot-cleaned : (s : Slots) (i : ℕ) → i < 8 → slotAt (set (s .pages) i (cleaned (slotAt (s .pages) i))) i ≡ cleaned (slotAt (s .pages) i)
-    slot-cleaned s i w = getD-set-same (s .pages) i (cleaned (slotAt (s .pages) i)) None (omega (arith, s .eight))
-
-    still-free : (s : Slots) (ts : List (Option Copied)) (i q : ℕ) → i < 8 → ts ≡ set (s .pages) i (cleaned (slotAt (s .pages) i)) → copyOf (s .pages) q ≡ None → copyOf ts q ≡ None
-    still-free s ts i q w e f = ap (λ (xs : List (Option Copied)). copyOf xs q) e ∙ copy-none _ q (copies-cleaned (s .pages) i q (omega (arith, s .eight)) ∙ copies-none (s .pages) q f)
+    let r′ : Replaces (slotAt (d .slots .pages) i) k (copiesOf d) (copyOf (t .pages)) =
+    subst (λ (s : Slots). Replaces (slotAt (s .pages) i) k (copyOf (s .pages)) (copyOf (t .pages))) (p .same-slots) r in
+    let z = h .places .misses free in
+    let k′ : Copied = record { page = k .page; changed = false; bytes = k .bytes } in
+    let same : k ≡ k′ = ap (λ (b : Bool). record { page = k .page; changed = b; bytes = k .bytes }) un in
+    let tk = taken-put (c .slots .pages) (d .slots .pages) (t .pages) (h .leaves) (h .places) r′ in (
+      fetch-done {past = past} {medium = medium} {c = c} {d = d} {e = e} {t = t} (slotAt (d .slots .pages) i) k (h .goes) p r′ (z .0) (z .1) un,
+      record {
+        leaver = h .leaver;
+        leaves = h .leaves;
+        holds-it = subst (λ (x : Copied). Replaces (h .leaver) x (copiesOf c) (copyOf (t .pages))) same tk;
+        one-call = λ y. calls-same (h .quiet y .1) p;
+      },
+    )

@@ -1,30 +1,27 @@
 -- What a flush does, whichever way it ends.
-use Prim.Native.Nat.{ℕ, _<_, _≤_}
+use Prim.Native.Nat.{ℕ, _≤_}
 use mathlib.Core.Path.{_≡_, refl, sym, _∙_, ap, subst}
-use mathlib.Core.Bool.{Bool, true, false, _||_, cond}
+use mathlib.Core.Bool.{Bool, true, false, cond}
 use mathlib.Core.List.{List}
 use native.Mathlib.Omega.{arith}
-use lib.ListN.{length, set}
+use lib.ListN.{set}
 use Rattle.std.proofs.shelf.Lists.{set-getD}
-use Rattle.std.proofs.shelf.Tests.{eq-eqb, both-ways, cond-true}
+use Rattle.std.proofs.shelf.Tests.{eq-eqb, cond-true}
 use Rattle.std.specs.Options.{isSome}
-use Rattle.std.specs.Results.{isErr, isOk}
 use Rattle.std.specs.declared.option.Option.{Option}
 use Rattle.std.specs.declared.option.Option.the-variants.{Some, None}
-use Rattle.std.specs.declared.result.Result.{Result}
 use Rattle.std.specs.declared.result.Result.the-variants.{Ok, Err}
 use Rattle.device.specs.Medium.{Medium}
-use Rattle.device.specs.History.{History, Happens, did-write, step}
+use Rattle.device.specs.History.{History, did-write}
 use Rattle.device.specs.declared.fault.DeviceFault.{DeviceFault}
 use Rattle.device.specs.declared.fault.DeviceFault.the-variants.{Outside, Off}
 use Rattle.cache.specs.declared.copy.Copied.{Copied}
 use Rattle.cache.specs.declared.cache.Cache.{Cache}
 use Rattle.cache.specs.declared.slots.Slots.{Slots}
 use Rattle.cache.specs.Held.{has, isChanged, copyOf, copies, slotAt, cleaned, Replaces}
-use Rattle.cache.specs.Cached.{shown, over, Agrees, copiesOf, cacheMedium, Stands}
-use Rattle.cache.specs.Calls.{saysOff}
-use Rattle.cache.specs.Inner.{flushed, Settles, Goes, Passes}
-use Rattle.cache.proofs.Copies.{copy-at, copies-at}
+use Rattle.cache.specs.Cached.{over, copiesOf, cacheMedium}
+use Rattle.cache.specs.Inner.{Settles, Goes, Passes}
+use Rattle.cache.proofs.Copies.{copy-at}
 use Rattle.cache.proofs.Steps.{settles-same, flush-lost, flush-done}
 
 -- the slot that has a page, has its copy

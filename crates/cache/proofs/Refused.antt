@@ -1,8 +1,8 @@
 -- Calls that the cache refuses with no call below.
 use Prim.Native.Nat.{ℕ, _<_, _≤_}
-use mathlib.Core.Path.{_≡_, refl, sym, _∙_, ap, subst}
+use mathlib.Core.Path.{_≡_, refl}
 use mathlib.Core.Bool.{Bool, true, false, cond}
-use mathlib.Core.Logic.{_⊎_, inl, inr}
+use mathlib.Core.Logic.{inr}
 use mathlib.Core.List.{List}
 use native.Mathlib.Omega.{arith}
 use lib.Dec.{ltb}
@@ -10,7 +10,7 @@ use Rattle.std.proofs.shelf.Tests.{ltb-true, ltb-false}
 use Rattle.std.specs.declared.result.Result.{Result}
 use Rattle.std.specs.declared.result.Result.the-variants.{Ok, Err}
 use Rattle.device.specs.Medium.{Medium, zeros}
-use Rattle.device.specs.Calls.{KeepsBut, IsOff}
+use Rattle.device.specs.Calls.{IsOff}
 use Rattle.device.specs.History.{History, Happens, did-read, did-write}
 use Rattle.device.specs.declared.fault.DeviceFault.{DeviceFault}
 use Rattle.device.specs.declared.fault.DeviceFault.the-variants.{Outside, Off}

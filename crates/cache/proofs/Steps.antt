@@ -1,23 +1,21 @@
 -- Steps of a cache: f gives the copy of each page before the step, and g after it.
-use Prim.Native.Nat.{ℕ, _<_, _≤_}
+use Prim.Native.Nat.{ℕ, _<_}
 use mathlib.Core.Path.{_≡_, refl, sym, _∙_, ap, subst}
-use mathlib.Core.Bool.{Bool, true, false, _||_}
+use mathlib.Core.Bool.{Bool, true, false}
 use mathlib.Core.Logic.{⊎-elim}
 use mathlib.Core.List.{List}
-use native.Mathlib.Omega.{arith}
-use borrow.Author.Needs.{needs}
-use Rattle.std.proofs.shelf.Tests.{cases-eq, cases-bool, eq-eqb, ne-eqb, both-ways, or-parts, or-from}
+use Rattle.std.proofs.shelf.Tests.{cases-eq, eq-eqb, ne-eqb, both-ways, or-parts, or-from}
 use Rattle.std.specs.Options.{isSome}
 use Rattle.std.specs.declared.option.Option.{Option}
 use Rattle.std.specs.declared.option.Option.the-variants.{Some, None}
 use Rattle.std.specs.declared.result.Result.{Result}
 use Rattle.std.specs.declared.result.Result.the-variants.{Ok, Err}
-use Rattle.device.specs.Medium.{Medium, Durable}
-use Rattle.device.specs.Calls.{Keeps, KeepsBut, StaysOn, IsOff, Reads, Writes, Syncs, Returns}
+use Rattle.device.specs.Medium.{Medium}
+use Rattle.device.specs.Calls.{Keeps, KeepsBut, Writes}
 use Rattle.device.specs.declared.fault.DeviceFault.{DeviceFault}
 use Rattle.device.specs.declared.fault.DeviceFault.the-variants.{Outside, Off}
 use Rattle.cache.specs.declared.copy.Copied.{Copied}
-use Rattle.cache.specs.Held.{has, isChanged, Replaces}
+use Rattle.cache.specs.Held.{isChanged, Replaces}
 use Rattle.cache.specs.Cached.{shown, over, Agrees}
 use Rattle.cache.specs.Inner.{Settles}
 

@@ -1,14 +1,12 @@
 -- What a write does, whichever way it ends.
-use Prim.Native.Nat.{ℕ, _<_, _≤_}
-use mathlib.Core.Path.{_≡_, refl, sym, _∙_, ap, subst}
+use Prim.Native.Nat.{ℕ, _<_}
+use mathlib.Core.Path.{_≡_, refl, _∙_, ap, subst}
 use mathlib.Core.Bool.{Bool, true, false}
-use mathlib.Core.Logic.{inl, inr}
+use mathlib.Core.Logic.{inr}
 use mathlib.Core.List.{List}
 use native.Mathlib.Omega.{arith}
 use Rattle.std.proofs.shelf.Tests.{both-ways}
 use Rattle.std.specs.declared.option.Option.{Option}
-use Rattle.std.specs.declared.option.Option.the-variants.{Some, None}
-use Rattle.std.specs.declared.result.Result.{Result}
 use Rattle.std.specs.declared.result.Result.the-variants.{Ok, Err}
 use Rattle.device.specs.Medium.{Medium}
 use Rattle.device.specs.Calls.{Keeps, KeepsBut}
@@ -23,7 +21,7 @@ use Rattle.cache.specs.Cached.{shown, over, copiesOf, cacheMedium, cachePast}
 use Rattle.cache.specs.Calls.{admitted, Stores}
 use Rattle.cache.specs.Inner.{Goes, Placed, Finding}
 use Rattle.cache.proofs.Takes.{take-written}
-use Rattle.cache.proofs.Fetched.{admitted-ok, displaces-put, settled-same}
+use Rattle.cache.proofs.Fetched.{admitted-ok, taken-put}
 
 keeps-but-more : (q : ℕ) (m k n : Medium) → Keeps m k → KeepsBut q k n → KeepsBut q m n
 keeps-but-more q m k n a b = record {
@@ -47,9 +45,9 @@ store-lost {medium = medium} {c = c} {d = d} q b Off l h = record {
       ((l, u .0 .0, inr (u .0 .1 .same-bytes q), keeps-but q (cacheMedium medium c) (cacheMedium medium d) (u .0 .1)), u .1);
 }
 
-pub store-done : {B : Type 0} {past : B → History → Type 0} {medium : B → Medium} {c d : Cache B} {t : Slots} (i : ℕ) (k : Copied)
+pub store-done : {B : Type 0} {past : B → History → Type 0} {medium : B → Medium} {c d : Cache B} {t : Slots} {o : Option Copied} (i : ℕ) (k : Copied)
     → admitted (medium (c .below) .size) (c .off) (k .page) ≡ Ok tt → Goes past medium c (Ok tt) d
-    → Placed (c .slots .pages) (k .page) i (d .slots .pages)
+    → Placed (c .slots .pages) (k .page) i o (d .slots .pages)
     → Replaces (slotAt (d .slots .pages) i) k (copiesOf d) (copyOf (t .pages)) → k .changed ≡ true
     → Happens (cachePast past medium c) (cacheMedium medium c) (did-write (k .page) (k .bytes) (Ok tt)) (cachePast past medium (record { below = d .below; slots = t; off = d .off })) (cacheMedium medium (record { below = d .below; slots = t; off = d .off }))
 store-done {medium = medium} {c = c} {d = d} {t = t} i k e x p r ch = record {
@@ -73,7 +71,9 @@ store-done {medium = medium} {c = c} {d = d} {t = t} i k e x p r ch = record {
 pub stores-lost : {B : Type 0} {past : B → History → Type 0} {medium : B → Medium} {c d : Cache B} (q : ℕ) (b : List ℕ) (y : DeviceFault)
     → Finding past medium c q (Err y) d → Stores c q b (Err y) d
 stores-lost q b y h = record {
-  holds-it = settled-same _ _ (h .places);
+  leaver = h .leaver;
+  leaves = h .leaves;
+  holds-it = h .settled;
   no-call = λ z. absurd (both-ways false refl (h .quiet z .0));
 }
 
@@ -82,6 +82,11 @@ pub stores-done : {B : Type 0} {past : B → History → Type 0} {medium : B →
     → Replaces (slotAt (d .slots .pages) i) k (copiesOf d) (copyOf (t .pages)) → k .changed ≡ true
     → Stores c (k .page) (k .bytes) (Ok tt) (record { below = d .below; slots = t; off = d .off })
 stores-done {B = B} {c = c} {d = d} {t = t} i k h r ch = record {
-  holds-it = (r .new ∙ ap (λ (b : Bool). Some (record { page = k .page; changed = b; bytes = k .bytes })) ch, displaces-put (h .places) r);
+  leaver = h .leaver;
+  leaves = h .leaves;
+  holds-it = subst (λ (x : Copied). Replaces (h .leaver) x (copiesOf c) (copyOf (t .pages))) same (taken-put (c .slots .pages) (d .slots .pages) (t .pages) (h .leaves) (h .places) r);
   no-call = λ z. let s = h .quiet z .1 in (refl, ap (λ (x : Cache B). x .below) s, ap (λ (x : Cache B). x .off) s);
 }
+  where
+    same : k ≡ record { page = k .page; changed = true; bytes = k .bytes }
+    same = ap (λ (b : Bool). record { page = k .page; changed = b; bytes = k .bytes }) ch

@@ -1,15 +1,15 @@
 -- What a sync does, whichever way it ends.
 use Prim.Native.Nat.{ℕ, zero, suc, _+_, _<_, _≤_}
 use mathlib.Core.Path.{_≡_, refl, sym, _∙_, ap, subst}
-use mathlib.Core.Bool.{Bool, true, false, _||_, cond}
+use mathlib.Core.Bool.{true, false}
 use mathlib.Core.Logic.{_⊎_, inl, inr, ⊎-elim}
 use mathlib.Core.List.{List, [], _∷_}
 use native.Mathlib.Omega.{arith}
 use lib.ListN.{length, set}
-use Rattle.std.proofs.shelf.Lists.{getD-set-same, getD-set-other, getD-past, set-past}
+use Rattle.std.proofs.shelf.Lists.{getD-set-same, getD-set-other, getD-past}
 use Rattle.std.proofs.shelf.Tests.{both-ways, cases-bool, cases-eq, cases-lt, cond-true, cond-false, or-from}
 use Rattle.std.specs.declared.option.Option.{Option}
-use Rattle.std.specs.declared.option.Option.the-variants.{Some, None}
+use Rattle.std.specs.declared.option.Option.the-variants.{None}
 use Rattle.std.specs.declared.result.Result.{Result}
 use Rattle.std.specs.declared.result.Result.the-variants.{Ok, Err}
 use Rattle.device.specs.Medium.{Medium}
@@ -20,14 +20,14 @@ use Rattle.cache.specs.declared.copy.Copied.{Copied}
 use Rattle.cache.specs.declared.cache.Cache.{Cache}
 use Rattle.cache.specs.declared.slots.Slots.{Slots}
 use Rattle.cache.specs.Held.{has, isChanged, copyOf, slotAt, cleaned}
-use Rattle.cache.specs.Cached.{over, copiesOf, cacheMedium, Stands, cachePast}
-use Rattle.cache.specs.Calls.{Settled, Clean, Flushed, Calls, Syncing}
-use Rattle.cache.specs.Inner.{flushed, Settles, Goes, Passes, FlushesAll, FlushedTo}
-use Rattle.cache.proofs.Steps.{settles-more, keeps-more}
+use Rattle.cache.specs.Cached.{over, copiesOf, cacheMedium, cachePast}
+use Rattle.cache.specs.Calls.{Settled, Clean, Flushed, Syncing}
+use Rattle.cache.specs.Inner.{flushed, Goes, Passes, FlushesAll, FlushedTo}
+use Rattle.cache.proofs.Steps.{keeps-more}
 use Rattle.cache.proofs.Flushes.{cleaned-clean}
-use Rattle.cache.proofs.Places.{changed-cleaned}
+use Rattle.cache.proofs.Places.{changed-cleaned, settled-same, settled-set}
 use Rattle.cache.proofs.Takes.{over-keeps, agrees-keeps}
-use Rattle.cache.proofs.Fetched.{goes-more, settled-same, settled-set, calls-same}
+use Rattle.cache.proofs.Fetched.{goes-more, calls-same}
 
 clean-copy : (ss : List (Option Copied)) → Clean ss → (p : ℕ) → isChanged (copyOf ss p) ≡ false
 clean-copy [] h p = refl

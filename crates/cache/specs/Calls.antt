@@ -1,10 +1,10 @@
 -- What the calls of a cache answer and do, settled by what the cache was before: c is the cache before the call,
 -- and d the cache after it. Which page leaves a full cache is left open.
-use Prim.Native.Nat.{ℕ, _<_}
+use Prim.Native.Nat.{ℕ}
 use mathlib.Core.Path.{_≡_}
 use mathlib.Core.Bool.{Bool, true, false, cond}
 use mathlib.Core.Logic.{_⊎_}
-use mathlib.Core.List.{List, []}
+use mathlib.Core.List.{List}
 use lib.Dec.{ltb}
 use lib.ListN.{replicate}
 use Rattle.std.specs.Options.{isSome}
@@ -18,28 +18,26 @@ use Rattle.device.specs.declared.fault.DeviceFault.{DeviceFault}
 use Rattle.device.specs.declared.fault.DeviceFault.the-variants.{Outside, Off}
 use Rattle.cache.specs.declared.copy.Copied.{Copied}
 use Rattle.cache.specs.declared.cache.Cache.{Cache}
-use Rattle.cache.specs.Held.{has, isChanged, copyOf, holds, slotAt, Full, Roomy, cleaned}
+use Rattle.cache.specs.Held.{has, isChanged, copyOf, holds, slotAt, Full, cleaned, Replaces}
 use Rattle.cache.specs.Cached.{copiesOf}
 
 -- a page outside the device is refused before all else, and then every page if the device is off
 abbrev pub admitted : ℕ → Bool → ℕ → Result Unit DeviceFault
 admitted size off p = cond (ltb p size) (cond off (Err Off) (Ok tt)) (Err Outside)
 
--- The copies of all pages but q stay, except that one may leave. That happens only where every slot has a page,
--- and none has page q.
-pub record Displaces (ss : List (Option Copied)) (q : ℕ) (ts : List (Option Copied)) : Type 0 where
-  pub leaver : Option Copied
-  pub others : (p : ℕ) → (p ≡ q → ⊥) → has leaver p ≡ false → copyOf ts p ≡ copyOf ss p
-  pub only-full : isSome leaver ≡ true → Full ss × (holds ss q ≡ false)
+-- The copy o leaves so that page q can be held, if one has to: only where every slot has a page, and none has q.
+pub record Leaves (ss : List (Option Copied)) (q : ℕ) (o : Option Copied) : Type 0 where
+  pub was : (p : ℕ) → has o p ≡ true → copyOf ss p ≡ o
+  pub only-full : isSome o ≡ true → Full ss × (holds ss q ≡ false)
 
 -- the same copies, but that some were written below
 abbrev pub Settled : List (Option Copied) → List (Option Copied) → Type 0
 Settled ss ts = (p : ℕ) → (copyOf ts p ≡ copyOf ss p) ⊎ (copyOf ts p ≡ cleaned (copyOf ss p))
 
--- the slots after a call that holds the copy k, if it is accepted; if it is refused, no page leaves
-abbrev pub Taken : List (Option Copied) → Copied → Result Unit DeviceFault → List (Option Copied) → Type 0
-Taken ss k (Ok _) ts = (copyOf ts (k .page) ≡ Some k) × Displaces ss (k .page) ts
-Taken ss k (Err _) ts = Settled ss ts
+-- the slots after a call that holds the copy k, and for which o leaves; if it is refused, no page leaves
+abbrev pub Taken : List (Option Copied) → Copied → Option Copied → Result Unit DeviceFault → List (Option Copied) → Type 0
+Taken ss k o (Ok _) ts = Replaces o k (copyOf ss) (copyOf ts)
+Taken ss k o (Err _) ts = Settled ss ts
 
 -- the slots, the device below and what is known of its power are the same; the order of use may differ
 pub record Same {B : Type 0} (c d : Cache B) : Type 0 where
@@ -51,10 +49,12 @@ pub record Same {B : Type 0} (c d : Cache B) : Type 0 where
 abbrev pub Calls : {B : Type 0} → (B → History → Type 0) → (B → Medium) → Cache B → Event → Cache B → Type 0
 Calls past medium c e d = Happens (past (c .below)) (medium (c .below)) e (past (d .below)) (medium (d .below))
 
--- a page that is not held is read below; unless a changed page has to leave for it, there is no other call
+-- A page that is not held is read below, and held. Unless a changed page leaves for it, there is no other call.
 pub record Fetches {B : Type 0} (past : B → History → Type 0) (medium : B → Medium) (c : Cache B) (q : ℕ) (b : List ℕ) (r : Result Unit DeviceFault) (d : Cache B) : Type 0 where
-  pub holds-it : Taken (c .slots .pages) (record { page = q; changed = false; bytes = b }) r (d .slots .pages)
-  pub one-call : Roomy (c .slots .pages) → Calls past medium c (did-read q b r) d
+  pub leaver : Option Copied
+  pub leaves : Leaves (c .slots .pages) q leaver
+  pub holds-it : Taken (c .slots .pages) (record { page = q; changed = false; bytes = b }) leaver r (d .slots .pages)
+  pub one-call : isChanged leaver ≡ false → Calls past medium c (did-read q b r) d
 
 -- A read of page q that leaves b in the caller's buffer, by whether it is admitted, and by the copy of the page.
 -- A page that is held is read with no call below.
@@ -67,10 +67,12 @@ pub record CacheReads {B : Type 0} (past : B → History → Type 0) (medium : B
   pub reads : Reading past medium (admitted (medium (c .below) .size) (c .off) q) (copiesOf c q) c q b r d
   pub holds-it : r ≡ Ok tt → holds (d .slots .pages) q ≡ true
 
--- A page is written to its slot. There is no call below if it is held, or if no changed page has to leave for it.
+-- A page is written to its slot. Unless a changed page leaves for it, there is no call below.
 pub record Stores {B : Type 0} (c : Cache B) (q : ℕ) (b : List ℕ) (r : Result Unit DeviceFault) (d : Cache B) : Type 0 where
-  pub holds-it : Taken (c .slots .pages) (record { page = q; changed = true; bytes = b }) r (d .slots .pages)
-  pub no-call : (holds (c .slots .pages) q ≡ true) ⊎ Roomy (c .slots .pages) → (r ≡ Ok tt) × (d .below ≡ c .below) × (d .off ≡ c .off)
+  pub leaver : Option Copied
+  pub leaves : Leaves (c .slots .pages) q leaver
+  pub holds-it : Taken (c .slots .pages) (record { page = q; changed = true; bytes = b }) leaver r (d .slots .pages)
+  pub no-call : isChanged leaver ≡ false → (r ≡ Ok tt) × (d .below ≡ c .below) × (d .off ≡ c .off)
 
 -- a write of b to page q, by whether it is admitted
 abbrev pub Writing : {B : Type 0} → Result Unit DeviceFault → Cache B → ℕ → List ℕ → Result Unit DeviceFault → Cache B → Type 0

@@ -2,7 +2,6 @@
 use Prim.Native.Nat.{ℕ, _+_, _<_, _≤_}
 use mathlib.Core.Path.{_≡_}
 use mathlib.Core.Bool.{Bool, true, false, cond}
-use mathlib.Core.Logic.{_⊎_}
 use mathlib.Core.List.{List, [], _∷_}
 use lib.Dec.{eqb}
 use lib.ListN.{length, getD}
@@ -70,7 +69,3 @@ pub record Replaces (o : Option Copied) (c : Copied) (f g : ℕ → Option Copie
 abbrev pub cleaned : Option Copied → Option Copied
 cleaned None = None
 cleaned (Some c) = Some (record { page = c .page; changed = false; bytes = c .bytes })
-
--- A slot is empty, or no copy was changed: then a page can be taken in with no write below.
-abbrev pub Roomy : List (Option Copied) → Type 0
-Roomy ss = (Full ss → ⊥) ⊎ ((i : ℕ) → isChanged (slotAt ss i) ≡ false)

@@ -1,15 +1,10 @@
 use mathlib.Core.Path.{_≡_, refl, sym, _∙_, ap}
-use mathlib.Core.Bool.{true, false}
+use mathlib.Core.Bool.{false}
 use borrow.Author.Needs.{needs}
 use Rattle.std.proofs.shelf.Results.{err-from-errBy}
 use Rattle.std.proofs.shelf.Tests.{both-ways}
-use Rattle.std.specs.declared.option.Option.the-variants.{Some, None}
-use Rattle.std.specs.declared.result.Result.the-variants.{Ok, Err}
-use lib.ListN.{set}
-use Rattle.std.specs.declared.option.Option.{Option}
-use Rattle.cache.specs.declared.copy.Copied.{Copied}
 use Rattle.cache.specs.declared.slots.Slots.{Slots}
-use Rattle.cache.specs.Held.{isChanged, slotAt, cleaned}
+use Rattle.cache.specs.Held.{isChanged, slotAt}
 use Rattle.cache.proofs.Flushes.{apart-same, flushed-clean, flushed-changed, goes-same, flush-refused, flush-accepted}
 use Rattle.cache.proofs.cache.Cache.flush.Needs as need
 

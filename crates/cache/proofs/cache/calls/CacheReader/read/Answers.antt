@@ -1,4 +1,4 @@
-use mathlib.Core.Path.{sym, _∙_}
+use mathlib.Core.Path.{sym}
 use Rattle.std.proofs.shelf.Results.{err-from-errBy}
 use Rattle.cache.proofs.Refused.{read-refused, reads-refused}
 use Rattle.cache.proofs.cache.calls.CacheReader.read.Needs as need
