@@ -19,7 +19,7 @@ use Rattle.cache.specs.declared.cache.Cache.{Cache}
 use Rattle.cache.specs.declared.slots.Slots.{Slots}
 use Rattle.cache.specs.Held.{isChanged, copyOf, slotAt, Replaces}
 use Rattle.cache.specs.Cached.{over, copiesOf, cacheMedium, Stands, cachePast}
-use Rattle.cache.specs.Calls.{admitted, Leaves, Settled, Calls, Fetches}
+use Rattle.cache.specs.Calls.{admitted, Leaves, Tidied, Calls, Fetches}
 use Rattle.cache.specs.Inner.{Settles, Goes, Passes, Placed, Finding}
 use Rattle.cache.proofs.Steps.{settles-more, keeps-more}
 use Rattle.cache.proofs.Takes.{over-keeps, agrees-keeps, take-read}
@@ -120,7 +120,7 @@ pub fetches-crowded : {B : Type 0} {past : B → History → Type 0} {medium : B
 fetches-crowded q b y h = record {
   leaver = h .leaver;
   leaves = h .leaves;
-  holds-it = h .settled;
+  holds-it = h .tidied;
   one-call = λ z. absurd (both-ways false refl (h .quiet z .0));
 }
 
@@ -129,7 +129,7 @@ pub fetches-lost : {B : Type 0} {past : B → History → Type 0} {medium : B �
 fetches-lost {c = c} q i b y h p = record {
   leaver = h .leaver;
   leaves = h .leaves;
-  holds-it = subst (λ (s : Slots). Settled (c .slots .pages) (s .pages)) (sym (p .same-slots)) (h .settled);
+  holds-it = subst (λ (s : Slots). Tidied (c .slots .pages) (s .pages)) (sym (p .same-slots)) (h .tidied);
   one-call = λ z. calls-same (h .quiet z .1) p;
 }
 

@@ -20,7 +20,7 @@ use Rattle.cache.specs.declared.copy.Copied.{Copied}
 use Rattle.cache.specs.declared.cache.Cache.{Cache}
 use Rattle.cache.specs.declared.slots.Slots.{Slots}
 use Rattle.cache.specs.Held.{has, isChanged, copyOf, copies, slotAt, cleaned, Finds}
-use Rattle.cache.specs.Calls.{Settled}
+use Rattle.cache.specs.Calls.{Tidied}
 use Rattle.cache.specs.Inner.{flushed, answerOf, Chosen, Rooms, Placed, Places, Finding}
 use Rattle.cache.proofs.Copies.{copy-none, copies-none, copies-set, copy-at, copy-set-other}
 use Rattle.cache.proofs.Flushes.{goes-same}
@@ -39,11 +39,11 @@ copies-cleaned ss i p l =
     let a = copies-set ss i p (cleaned (slotAt ss i)) l in
     let d = ap (λ (b : Bool). cond {A = ℕ} b 1 0) (has-cleaned (slotAt ss i) p) in omega arith
 
-pub settled-same : (ss ts : List (Option Copied)) → ts ≡ ss → Settled ss ts
-settled-same ss ts e p = inl (ap (λ (xs : List (Option Copied)). copyOf xs p) e)
+pub tidied-same : (ss ts : List (Option Copied)) → ts ≡ ss → Tidied ss ts
+tidied-same ss ts e p = inl (ap (λ (xs : List (Option Copied)). copyOf xs p) e)
 
-pub settled-set : (s : Slots) (i : ℕ) → i < 8 → Settled (s .pages) (set (s .pages) i (cleaned (slotAt (s .pages) i)))
-settled-set s i w p = ⊎-elim
+pub tidied-set : (s : Slots) (i : ℕ) → i < 8 → Tidied (s .pages) (set (s .pages) i (cleaned (slotAt (s .pages) i)))
+tidied-set s i w p = ⊎-elim
     (λ h. let x = copy-at ss i p (s .distinct p) h in
     let y = copies-cleaned ss i p l in let d = s .distinct p in
     let h′ : has (slotAt ts i) p ≡ true = ap (λ (o : Option Copied). has o p) at-i ∙ has-cleaned (slotAt ss i) p ∙ h in
@@ -97,7 +97,7 @@ finding-new {c = c} {d = d} q r e h = record {
   leaver = o;
   leaves = record { was = λ p z. copy-at ss i p (c .slots .distinct p) z; only-full = λ z. (h .full z, ap isSome e) };
   goes = h .goes;
-  settled = settles r (h .flushes);
+  tidied = settles r (h .flushes);
   places = places r (h .chosen) (h .flushes);
   quiet = h .quiet;
 }
@@ -111,9 +111,9 @@ finding-new {c = c} {d = d} q r e h = record {
     o : Option Copied
     o = slotAt (c .slots .pages) (h .slot)
 
-    settles : (r : Result ℕ DeviceFault) → d .slots .pages ≡ flushed (answerOf r) (c .slots .pages) (h .slot) → Settled (c .slots .pages) (d .slots .pages)
-    settles (Ok _) z = subst (Settled (c .slots .pages)) (sym z) (settled-set (c .slots) (h .slot) (h .within))
-    settles (Err _) z = settled-same (c .slots .pages) (d .slots .pages) z
+    settles : (r : Result ℕ DeviceFault) → d .slots .pages ≡ flushed (answerOf r) (c .slots .pages) (h .slot) → Tidied (c .slots .pages) (d .slots .pages)
+    settles (Ok _) z = subst (Tidied (c .slots .pages)) (sym z) (tidied-set (c .slots) (h .slot) (h .within))
+    settles (Err _) z = tidied-same (c .slots .pages) (d .slots .pages) z
 
     places : (r : Result ℕ DeviceFault) → Chosen r (h .slot) → d .slots .pages ≡ flushed (answerOf r) (c .slots .pages) (h .slot)
         → Places (c .slots .pages) q (slotAt (c .slots .pages) (h .slot)) r (d .slots .pages)
@@ -127,7 +127,7 @@ finding-held {past = past} {medium = medium} {c = c} q i f = record {
   leaver = None;
   leaves = record { was = λ _ z. absurd (both-ways false refl z); only-full = λ z. absurd (both-ways false refl z) };
   goes = goes-same past medium c;
-  settled = settled-same ss ss refl;
+  tidied = tidied-same ss ss refl;
   places = record {
     within = omega (arith, f .0, c .slots .eight);
     apart = let z = cond-true {A = ℕ} (has (slotAt ss i) q) 1 0 (f .1) in let d = c .slots .distinct q in omega arith;

@@ -73,7 +73,7 @@ pub stores-lost : {B : Type 0} {past : B → History → Type 0} {medium : B →
 stores-lost q b y h = record {
   leaver = h .leaver;
   leaves = h .leaves;
-  holds-it = h .settled;
+  holds-it = h .tidied;
   no-call = λ z. absurd (both-ways false refl (h .quiet z .0));
 }
 

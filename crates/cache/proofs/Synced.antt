@@ -21,11 +21,11 @@ use Rattle.cache.specs.declared.cache.Cache.{Cache}
 use Rattle.cache.specs.declared.slots.Slots.{Slots}
 use Rattle.cache.specs.Held.{has, isChanged, copyOf, slotAt, cleaned}
 use Rattle.cache.specs.Cached.{over, copiesOf, cacheMedium, cachePast}
-use Rattle.cache.specs.Calls.{Settled, Clean, Flushed, Syncing}
+use Rattle.cache.specs.Calls.{Tidied, Clean, Flushed, Syncing}
 use Rattle.cache.specs.Inner.{flushed, Goes, Passes, FlushesAll, FlushedTo}
 use Rattle.cache.proofs.Steps.{keeps-more}
 use Rattle.cache.proofs.Flushes.{cleaned-clean}
-use Rattle.cache.proofs.Places.{changed-cleaned, settled-same, settled-set}
+use Rattle.cache.proofs.Places.{changed-cleaned, tidied-same, tidied-set}
 use Rattle.cache.proofs.Takes.{over-keeps, agrees-keeps}
 use Rattle.cache.proofs.Fetched.{goes-more, calls-same}
 
@@ -36,13 +36,13 @@ clean-copy (s ∷ ss) h p = ⊎-elim
     (λ t. ap isChanged (cond-false (has s p) s (copyOf ss p) t) ∙ clean-copy ss (λ i. h (suc i)) p)
     (cases-bool (has s p))
 
-settled-more : (ss ts us : List (Option Copied)) → Settled ss ts → Settled ts us → Settled ss us
-settled-more ss ts us a b p = ⊎-elim
+tidied-more : (ss ts us : List (Option Copied)) → Tidied ss ts → Tidied ts us → Tidied ss us
+tidied-more ss ts us a b p = ⊎-elim
     (λ x. ⊎-elim (λ y. inl (y ∙ x)) (λ y. inr (y ∙ ap cleaned x)) (b p))
     (λ x. ⊎-elim (λ y. inr (y ∙ x)) (λ y. inr (y ∙ ap cleaned x ∙ cleaned-clean (cleaned (copyOf ss p)) (changed-cleaned (copyOf ss p)))) (b p))
     (a p)
 
-flushed-all : (ss ts : List (Option Copied)) → Settled ss ts → Clean ts → (p : ℕ) → copyOf ts p ≡ cleaned (copyOf ss p)
+flushed-all : (ss ts : List (Option Copied)) → Tidied ss ts → Clean ts → (p : ℕ) → copyOf ts p ≡ cleaned (copyOf ss p)
 flushed-all ss ts a h p = ⊎-elim
     (λ x. let e : isChanged (copyOf ss p) ≡ false = ap isChanged (sym x) ∙ clean-copy ts h p in x ∙ sym (cleaned-clean (copyOf ss p) e))
     (λ x. x)
@@ -61,7 +61,7 @@ pub flushed-more : {B : Type 0} {past : B → History → Type 0} {medium : B �
     → (isChanged (slotAt (d .slots .pages) k) ≡ false → e ≡ d) → FlushedTo past medium c (k + 1) e
 flushed-more {B = B} {c = c} {d = d} {e = e} k w f x s q = record {
   goes = goes-more (Ok tt) (f .goes) x;
-  settled = settled-more (c .slots .pages) (d .slots .pages) (e .slots .pages) (f .settled) (subst (Settled (d .slots .pages)) (sym s) (settled-set (d .slots) k w));
+  tidied = tidied-more (c .slots .pages) (d .slots .pages) (e .slots .pages) (f .tidied) (subst (Tidied (d .slots .pages)) (sym s) (tidied-set (d .slots) k w));
   cleans = λ i j. ap (λ (ss : List (Option Copied)). isChanged (slotAt ss i)) s ∙ clean-set (d .slots .pages) k (omega (arith, d .slots .eight)) (f .cleans) i j;
   quiet = λ z. let y = f .quiet z in q (ap (λ (x : Cache B). isChanged (slotAt (x .slots .pages) k)) y ∙ z k) ∙ y;
 }
@@ -71,7 +71,7 @@ pub flushed-lost : {B : Type 0} {past : B → History → Type 0} {medium : B �
     → (isChanged (slotAt (d .slots .pages) k) ≡ false → _≡_ {A = Result (Unit {0}) DeviceFault} (Err y) (Ok tt)) → FlushesAll past medium c (Err y) e
 flushed-lost {B = B} {c = c} {d = d} {e = e} k y f x s q = record {
   goes = goes-more (Err y) (f .goes) x;
-  flushes = settled-more (c .slots .pages) (d .slots .pages) (e .slots .pages) (f .settled) (settled-same _ _ s);
+  flushes = tidied-more (c .slots .pages) (d .slots .pages) (e .slots .pages) (f .tidied) (tidied-same _ _ s);
   cleans = λ z. absurd (let n : _≡_ {A = ℕ} 0 1 = cc in omega arith);
   quiet = λ z. let w = q (ap (λ (x : Cache B). isChanged (slotAt (x .slots .pages) k)) (f .quiet z) ∙ z k) in absurd (let n : _≡_ {A = ℕ} 0 1 = cc in omega arith);
 }
@@ -80,7 +80,7 @@ pub flushed-done : {B : Type 0} {past : B → History → Type 0} {medium : B �
     → FlushedTo past medium c k d → FlushesAll past medium c (Ok tt) d
 flushed-done {c = c} {d = d} k w f = record {
   goes = f .goes;
-  flushes = flushed-all (c .slots .pages) (d .slots .pages) (f .settled) all;
+  flushes = flushed-all (c .slots .pages) (d .slots .pages) (f .tidied) all;
   cleans = λ _. all;
   quiet = λ z. (refl, f .quiet z);
 }

@@ -1,4 +1,4 @@
--- What the calls of a cache answer and do, settled by what the cache was before: c is the cache before the call,
+-- What the calls of a cache answer and do, determined by what the cache was before: c is the cache before the call,
 -- and d the cache after it. Which page leaves a full cache is left open.
 use Prim.Native.Nat.{ℕ}
 use mathlib.Core.Path.{_≡_}
@@ -31,13 +31,13 @@ pub record Leaves (ss : List (Option Copied)) (q : ℕ) (o : Option Copied) : Ty
   pub only-full : isSome o ≡ true → Full ss × (holds ss q ≡ false)
 
 -- the same copies, but that some were written below
-abbrev pub Settled : List (Option Copied) → List (Option Copied) → Type 0
-Settled ss ts = (p : ℕ) → (copyOf ts p ≡ copyOf ss p) ⊎ (copyOf ts p ≡ cleaned (copyOf ss p))
+abbrev pub Tidied : List (Option Copied) → List (Option Copied) → Type 0
+Tidied ss ts = (p : ℕ) → (copyOf ts p ≡ copyOf ss p) ⊎ (copyOf ts p ≡ cleaned (copyOf ss p))
 
 -- the slots after a call that holds the copy k, and for which o leaves; if it is refused, no page leaves
 abbrev pub Taken : List (Option Copied) → Copied → Option Copied → Result Unit DeviceFault → List (Option Copied) → Type 0
 Taken ss k o (Ok _) ts = Replaces o k (copyOf ss) (copyOf ts)
-Taken ss k o (Err _) ts = Settled ss ts
+Taken ss k o (Err _) ts = Tidied ss ts
 
 -- the slots, the device below and what is known of its power are the same; the order of use may differ
 pub record Same {B : Type 0} (c d : Cache B) : Type 0 where
@@ -90,7 +90,7 @@ Clean ss = (i : ℕ) → isChanged (slotAt ss i) ≡ false
 -- every changed page was written below, or some were
 abbrev pub Flushed : List (Option Copied) → Result Unit DeviceFault → List (Option Copied) → Type 0
 Flushed ss (Ok _) ts = (p : ℕ) → copyOf ts p ≡ cleaned (copyOf ss p)
-Flushed ss (Err _) ts = Settled ss ts
+Flushed ss (Err _) ts = Tidied ss ts
 
 -- a sync, by whether the device is off; where no copy is changed, it is one call below
 abbrev pub Syncing : {B : Type 0} → (B → History → Type 0) → (B → Medium) → Bool → Cache B → Result Unit DeviceFault → Cache B → Type 0

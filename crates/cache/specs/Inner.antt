@@ -18,7 +18,7 @@ use Rattle.device.specs.declared.fault.DeviceFault.the-variants.{Outside, Off}
 use Rattle.cache.specs.declared.copy.Copied.{Copied}
 use Rattle.cache.specs.declared.cache.Cache.{Cache}
 use Rattle.cache.specs.Held.{has, isChanged, copyOf, copies, slotAt, Full, cleaned}
-use Rattle.cache.specs.Calls.{saysOff, Leaves, Settled, Clean, Flushed}
+use Rattle.cache.specs.Calls.{saysOff, Leaves, Tidied, Clean, Flushed}
 use Rattle.cache.specs.Cached.{Stands, cacheMedium}
 
 -- the slots after slot i was written below, or was not
@@ -78,7 +78,7 @@ pub record Finding {B : Type 0} (past : B → History → Type 0) (medium : B �
   pub leaver : Option Copied
   pub leaves : Leaves (c .slots .pages) q leaver
   pub goes : Goes past medium c (answerOf r) d
-  pub settled : Settled (c .slots .pages) (d .slots .pages)
+  pub tidied : Tidied (c .slots .pages) (d .slots .pages)
   pub places : Places (c .slots .pages) q leaver r (d .slots .pages)
   pub quiet : isChanged leaver ≡ false → (isOk r ≡ true) × (d ≡ c)
 
@@ -92,6 +92,6 @@ pub record FlushesAll {B : Type 0} (past : B → History → Type 0) (medium : B
 -- the first k slots were written below
 pub record FlushedTo {B : Type 0} (past : B → History → Type 0) (medium : B → Medium) (c : Cache B) (k : ℕ) (d : Cache B) : Type 0 where
   pub goes : Goes past medium c (Ok tt) d
-  pub settled : Settled (c .slots .pages) (d .slots .pages)
+  pub tidied : Tidied (c .slots .pages) (d .slots .pages)
   pub cleans : (i : ℕ) → i < k → isChanged (slotAt (d .slots .pages) i) ≡ false
   pub quiet : Clean (c .slots .pages) → d ≡ c

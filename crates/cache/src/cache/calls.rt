@@ -58,7 +58,7 @@ pub impl<D: Device> Reader for Cache<D> as CacheReader {
 
     fn read(&mut self, page: u32, buffer: &mut Page) -> Result<(), DeviceFault>
         ensures meaning { λ r. ⌜ Happens (cachePast (D·Reader .past) (D·Reader .medium) (now (self .entry))) (cacheMedium (D·Reader .medium) (now (self .entry))) (did-read page (now (buffer .exit)) r) (cachePast (D·Reader .past) (D·Reader .medium) (now (self .exit))) (cacheMedium (D·Reader .medium) (now (self .exit))) ⌝ }
-        ensures settled { λ r. ⌜ CacheReads (D·Reader .past) (D·Reader .medium) (now (self .entry)) page (now (buffer .exit)) r (now (self .exit)) ⌝ }
+        ensures exact { λ r. ⌜ CacheReads (D·Reader .past) (D·Reader .medium) (now (self .entry)) page (now (buffer .exit)) r (now (self .exit)) ⌝ }
     {
         *buffer = [0; PAGE_SIZE];
         self.admit(page)?;
@@ -73,7 +73,7 @@ pub impl<D: Device> Reader for Cache<D> as CacheReader {
 pub impl<D: Device> Device for Cache<D> as CacheDevice {
     fn write(&mut self, page: u32, bytes: &Page) -> Result<(), DeviceFault>
         ensures meaning { λ r. ⌜ Happens (cachePast (D·Reader .past) (D·Reader .medium) (now (self .entry))) (cacheMedium (D·Reader .medium) (now (self .entry))) (did-write page (now (bytes .entry)) r) (cachePast (D·Reader .past) (D·Reader .medium) (now (self .exit))) (cacheMedium (D·Reader .medium) (now (self .exit))) ⌝ }
-        ensures settled { λ r. ⌜ CacheWrites (D·Reader .medium) (now (self .entry)) page (now (bytes .entry)) r (now (self .exit)) ⌝ }
+        ensures exact { λ r. ⌜ CacheWrites (D·Reader .medium) (now (self .entry)) page (now (bytes .entry)) r (now (self .exit)) ⌝ }
     {
         self.admit(page)?;
         self.store(page, bytes)
@@ -81,7 +81,7 @@ pub impl<D: Device> Device for Cache<D> as CacheDevice {
 
     fn sync(&mut self) -> Result<(), DeviceFault>
         ensures meaning { λ r. ⌜ Happens (cachePast (D·Reader .past) (D·Reader .medium) (now (self .entry))) (cacheMedium (D·Reader .medium) (now (self .entry))) (did-sync r) (cachePast (D·Reader .past) (D·Reader .medium) (now (self .exit))) (cacheMedium (D·Reader .medium) (now (self .exit))) ⌝ }
-        ensures settled { λ r. ⌜ Syncing (D·Reader .past) (D·Reader .medium) (now (self .entry) .off) (now (self .entry)) r (now (self .exit)) ⌝ }
+        ensures exact { λ r. ⌜ Syncing (D·Reader .past) (D·Reader .medium) (now (self .entry) .off) (now (self .entry)) r (now (self .exit)) ⌝ }
     {
         if self.off {
             return Err(DeviceFault::Off);
@@ -93,7 +93,7 @@ pub impl<D: Device> Device for Cache<D> as CacheDevice {
 pub impl<D: PowerCycle> PowerCycle for Cache<D> as CachePowerCycle {
     fn power_return(&mut self)
         ensures meaning { λ _. ⌜ Happens (cachePast (D·Reader .past) (D·Reader .medium) (now (self .entry))) (cacheMedium (D·Reader .medium) (now (self .entry))) power-returned (cachePast (D·Reader .past) (D·Reader .medium) (now (self .exit))) (cacheMedium (D·Reader .medium) (now (self .exit))) ⌝ }
-        ensures settled { λ _. ⌜ CacheReturns (D·Reader .past) (D·Reader .medium) (now (self .entry)) (now (self .exit)) ⌝ }
+        ensures exact { λ _. ⌜ CacheReturns (D·Reader .past) (D·Reader .medium) (now (self .entry)) (now (self .exit)) ⌝ }
     {
         self.below.power_return();
         self.slots = Slots::new();

@@ -66,12 +66,12 @@ impl<D: Device> Cache<D> {
             return Ok(());
         }
         self.write_below(copy.page, &copy.bytes)?;
-        let settled = Copied {
+        let clean = Copied {
             page: copy.page,
             changed: false,
             bytes: copy.bytes,
         };
-        self.slots.put(i, settled);
+        self.slots.put(i, clean);
         Ok(())
     }
 
@@ -174,7 +174,7 @@ impl<D: Device> Cache<D> {
     pub(super) fn settle(&mut self) -> Result<(), DeviceFault>
         requires { ⌜ now self .off ≡ false ⌝ }
         ensures meaning { λ r. ⌜ Happens (cachePast (D·Reader .past) (D·Reader .medium) (now (self .entry))) (cacheMedium (D·Reader .medium) (now (self .entry))) (did-sync r) (cachePast (D·Reader .past) (D·Reader .medium) (now (self .exit))) (cacheMedium (D·Reader .medium) (now (self .exit))) ⌝ }
-        ensures settled { λ r. ⌜ Syncing (D·Reader .past) (D·Reader .medium) false (now (self .entry)) r (now (self .exit)) ⌝ }
+        ensures exact { λ r. ⌜ Syncing (D·Reader .past) (D·Reader .medium) false (now (self .entry)) r (now (self .exit)) ⌝ }
     {
         self.flush_all()?;
         self.sync_below()

@@ -9,7 +9,7 @@ returns-in-Break-flush-all g c =
     let f = c .in-Break-flush-all .ensures tt in
     record {
       meaning = rw (q .1, q .2) (sync-refused _ (f .goes));
-      settled = rw (q .1, q .2) (syncs-lost _ f);
+      exact = rw (q .1, q .2) (syncs-lost _ f);
     }
 
 pub returns : need.returns
@@ -17,5 +17,5 @@ returns g c =
     let f = c .in-Continue-flush-all .ensures tt in
     record {
       meaning = sync-done (c .sync-below .result) (f .goes) (f .cleans refl) (c .sync-below .ensures);
-      settled = syncs-done (c .sync-below .result) f (c .sync-below .ensures);
+      exact = syncs-done (c .sync-below .result) f (c .sync-below .ensures);
     }

@@ -7,4 +7,4 @@ pub returns-in-Break-admit : need.returns-in-Break-admit
 returns-in-Break-admit g c =
     let q = err-from-errBy (c .from-residual .result) (c .from-residual .ensures .1) in
     let e = sym (c .in-Break-admit .ensures tt) in
-    record { meaning = rw (q .1, q .2) (read-refused _ _ e); settled = rw (q .1, q .2) (reads-refused _ _ e) }
+    record { meaning = rw (q .1, q .2) (read-refused _ _ e); exact = rw (q .1, q .2) (reads-refused _ _ e) }
