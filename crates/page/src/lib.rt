@@ -18,4 +18,6 @@ pub use fault::Cause;
 pub use fault::CauseDebug;
 pub use fault::CauseEq;
 pub use fault::CausePartialEq;
+pub use grown::Grown;
 pub use leaf::LeafPage;
+pub use short::Short;

@@ -1,3 +1,4 @@
+ghost use mathlib.Core.List.{[]};
 ghost use mathlib.Core.Path.{_≡_};
 ghost use Rattle.page.specs.Growths.{PutsPair, RemovesPair};
 ghost use Rattle.page.specs.Places.{upTo};
@@ -8,12 +9,19 @@ use crate::draft::key_at;
 use crate::grown::Grown;
 use crate::known::known;
 use crate::leaf::LeafPage;
+use crate::leaf::edits::no_pairs;
 use crate::leaf::edits::with_cell;
 use crate::leaf::edits::without;
 use crate::search::place_above;
 use crate::short::Short;
 
 impl LeafPage {
+    pub fn empty() -> Self
+        ensures { λ r. ⌜ leafPairs r ≡ [] ⌝ }
+    {
+        no_pairs()
+    }
+
     // The place of the first pair with a greater key.
     pub fn above(&self, key: &[u8]) -> usize
         ensures { λ r. ⌜ r ≡ upTo keyOf (now (key .entry)) (leafPairs (now (self .entry))) ⌝ }

@@ -18,6 +18,8 @@ ghost use Rattle.page.specs.Views.{leafPairs, pairsIn};
 use crate::cell::Cell;
 use crate::cell::LeafCell;
 use crate::cell::LeafKind;
+use crate::draft::finish;
+use crate::draft::start;
 use crate::edit::body;
 use crate::edit::cost;
 use crate::edit::leaf_cut;
@@ -29,6 +31,7 @@ use crate::leaf::LeafPage;
 use crate::short::Short;
 use crate::splice::Splice;
 use cuts::separator_len;
+use device::PAGE_SIZE;
 use device::Page;
 
 // The leaf of the cells from one place up to another.
@@ -136,4 +139,14 @@ pub(crate) fn without(page: &Page, i: usize) -> LeafPage
     };
     let n = len::<LeafCell>(&list);
     leaf_part(&list, 0, n)
+}
+
+// The leaf of no pairs.
+pub(crate) fn no_pairs() -> LeafPage
+    ensures { λ r. ⌜ leafPairs r ≡ [] ⌝ }
+{
+    let mut page = [0; PAGE_SIZE];
+    start::<LeafCell>(&mut page, 0);
+    finish::<LeafCell>(&mut page);
+    LeafPage { bytes: page }
 }
