@@ -11,7 +11,10 @@ fn published_values() -> Result<(), Fail> {
     check_eq(crc32(b"abc"), 0x3524_41c2)?;
     check_eq(crc32(b"123456789"), 0xcbf4_3926)?;
     check_eq(crc32(b"message digest"), 0x2015_9d7f)?;
-    check_eq(crc32(b"The quick brown fox jumps over the lazy dog"), 0x414f_a339)?;
+    check_eq(
+        crc32(b"The quick brown fox jumps over the lazy dog"),
+        0x414f_a339,
+    )?;
     check_eq(crc32(&[0; 32]), 0x190a_55ad)?;
     check_eq(crc32(&[255; 32]), 0xff6c_ab0b)
 }

@@ -2,12 +2,9 @@
 
 #[cfg(test)]
 mod caches;
-
 #[cfg(test)]
 mod checksums;
-
 #[cfg(test)]
 mod devices;
-
 #[cfg(test)]
 mod leaves;

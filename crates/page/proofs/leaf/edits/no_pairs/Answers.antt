@@ -11,9 +11,11 @@ use Rattle.page.proofs.leaf.edits.no_pairs.Needs as need
 pub ghost-result : need.ghost-result
 unfolding rising
 ghost-result c =
-    let b = c .start .last .page in
-    (page-sound leafRules (leftOf b) _ (cellsOf b) (c .finish .last .page) (c .finish .ensures .value) (c .finish .ensures .shows)
-      (ap (every leafGood) (c .start .ensures .cells)) (ap (λ l. eqb l 0) (c .start .ensures .left)) (ap (rising leafKey) (c .start .ensures .cells)), tt)
+    let b = c .start .last .page in (
+      page-sound leafRules (leftOf b) _ (cellsOf b) (c .finish .last .page) (c .finish .ensures .value) (c .finish .ensures .shows)
+          (ap (every leafGood) (c .start .ensures .cells)) (ap (λ l. eqb l 0) (c .start .ensures .left)) (ap (rising leafKey) (c .start .ensures .cells)),
+      tt,
+    )
 
 pub returns : need.returns
 returns c = ap (map pairOf) (cells-are (c .finish .ensures .shows) ∙ c .start .ensures .cells)
