@@ -101,7 +101,6 @@ pages-read-back m at pages f g =
     cc
 
 in-fits : (b : List ℕ) → ((k : ℕ) → getD b k 0 < 2 ^ 8) → Fits (metaIn b)
-unfolding metaIn
 in-fits b h = record {
   pages = word32-small b 4 h;
   root = word32-small b 8 h;
@@ -115,22 +114,10 @@ nothing-else-is-read b at pages m h e =
     (read-page at pages b m e, ap length (read-page at pages b m e) ∙ page-length m, rw (← read-says at pages b m e) (in-fits b h), good-is at pages m (read-good at pages b m e))
 
 newer-second : (x y : Meta) → x .commit < y .commit → newer (Some x) (Some y) ≡ Some y
-unfolding newer
 newer-second x y h = ap (λ t. cond t (Some y) (Some x)) (lt-ltb _ _ h)
 
 newer-first : (x y : Meta) → y .commit ≤ x .commit → newer (Some x) (Some y) ≡ Some x
-unfolding newer
 newer-first x y h = ap (λ t. cond t (Some y) (Some x)) (le-ltb _ _ h)
-
-pub second-counts : {a b : Option Meta} (x y : Meta) → a ≡ Some x → b ≡ Some y → x .commit < y .commit → Some y ≡ newer a b
-second-counts x y ea eb h =
-    let e = newer-second x y h in
-    cc
-
-pub first-counts : {a b : Option Meta} (x y : Meta) → a ≡ Some x → b ≡ Some y → y .commit ≤ x .commit → Some x ≡ newer a b
-first-counts x y ea eb h =
-    let e = newer-first x y h in
-    cc
 
 pub the-newer-counts : TheNewerCounts
 the-newer-counts a b pages x y ea eb =
@@ -144,7 +131,7 @@ six-and-seven a b pages x y ea eb six seven =
     cc
 
 says-seven : (m : Meta) (q : ℕ) → m .commit ≡ 7 → metaIn (laidOut q m) .commit ≡ 7
-unfolding laidOut metaIn word32 word64
+unfolding laidOut word32 word64
 says-seven m q e = ap (λ n. word64 (laidOut q (record { pages = m .pages; root = m .root; commit = n; pairs = m .pairs; levels = m .levels })) 16) e
 
 seven-fails : (m : Meta) (pages : ℕ) → m .commit ≡ 7 → passes 0 pages (metaPage m) ≡ true → ⊥

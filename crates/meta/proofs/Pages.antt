@@ -117,7 +117,7 @@ module _ (b : List ℕ) (bytes : Bytes b) (len : length b ≡ 512) (s : Shaped b
 
   -- such bytes are laid out as the meta page of what they say, with whatever checksum
   whole : b ≡ laidOut (word32 b 12) (metaIn b)
-  unfolding laidOut metaIn word32 word64 parts
+  unfolding laidOut word32 word64 parts
   whole =
       sym (take-append-drop 29 b)
       ∙ (ap (λ x. x ++ drop 29 b) (front b (omega arith))
@@ -138,7 +138,7 @@ same-meta : {p p′ r r′ c c′ n n′ l l′ : ℕ} → p ≡ p′ → r ≡ 
 same-meta ep er ec en el = cc
 
 laid-says : (m : Meta) (q : ℕ) → Fits m → metaIn (laidOut q m) ≡ m
-unfolding laidOut metaIn word32 word64
+unfolding laidOut word32 word64
 laid-says m q f =
     same-meta (four-bytes (m .pages) (f .pages)) (four-bytes (m .root) (f .root))
     (eight-bytes (m .commit) _ (f .commit) refl) (four-bytes (m .pairs) (f .pairs)) refl

@@ -29,7 +29,7 @@ unfoldable pub metaPage : Meta → List ℕ
 metaPage m = sealed (laidOut 0 m)
 
 -- what bytes say, whatever they are
-unfoldable pub metaIn : List ℕ → Meta
+abbrev pub metaIn : List ℕ → Meta
 metaIn b = record {
   pages = word32 b 4;
   root = word32 b 8;

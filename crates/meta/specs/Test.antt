@@ -25,7 +25,7 @@ unfoldable pub readMeta : (at pages : ℕ) → List ℕ → Option Meta
 readMeta at pages b = cond (passes at pages b) (Some (metaIn b)) None
 
 -- of what is read in page 0 and in page 1, that with the larger commit number
-unfoldable pub newer : Option Meta → Option Meta → Option Meta
+abbrev pub newer : Option Meta → Option Meta → Option Meta
 newer None b = b
 newer (Some x) None = Some x
 newer (Some x) (Some y) = cond (ltb (x .commit) (y .commit)) (Some y) (Some x)

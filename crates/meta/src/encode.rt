@@ -1,6 +1,8 @@
 ghost use mathlib.Core.Path.{_≡_};
 ghost use Rattle.meta.specs.Layout.{metaPage};
+use crate::KIND;
 use crate::Meta;
+use crate::VERSION;
 use crate::bytes::put;
 use checksum::seal;
 use device::PAGE_SIZE;
@@ -12,8 +14,8 @@ impl Meta {
         ensures { λ r. ⌜ r ≡ metaPage (now (self .entry)) ⌝ }
     {
         let mut page = [0; PAGE_SIZE];
-        page[0] = 3;
-        page[1] = 1;
+        page[0] = KIND;
+        page[1] = VERSION;
         put(&mut page, 4, &self.pages.to_le_bytes());
         put(&mut page, 8, &self.root.to_le_bytes());
         put(&mut page, 16, &self.commit.to_le_bytes());

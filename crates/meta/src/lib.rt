@@ -7,6 +7,11 @@ mod read;
 
 pub use choose::newer;
 
+// The first byte of a meta page, and the second.
+const KIND: u8 = 3;
+
+const VERSION: u8 = 1;
+
 // What a meta page says.
 #[derive(Clone, Copy, PartialEq, Eq, Debug)]
 pub struct Meta {

@@ -3,7 +3,9 @@ ghost use Rattle.std.specs.Orderings.{Decides};
 ghost use Rattle.meta.specs.Layout.{metaIn};
 ghost use Rattle.meta.specs.Test.{readMeta};
 ghost use Rattle.meta.specs.Shape.{Shaped, Good};
+use crate::KIND;
 use crate::Meta;
+use crate::VERSION;
 use crate::bytes::is_zero_from;
 use crate::bytes::read32;
 use crate::bytes::read64;
@@ -33,7 +35,11 @@ impl Meta {
 fn is_shaped(bytes: &Page) -> bool
     ensures { λ r. ⌜ Decides r (Shaped (now (bytes .entry))) ⌝ }
 {
-    bytes[0] == 3 && bytes[1] == 1 && bytes[2] == 0 && bytes[3] == 0 && is_zero_from(bytes, 29)
+    bytes[0] == KIND
+        && bytes[1] == VERSION
+        && bytes[2] == 0
+        && bytes[3] == 0
+        && is_zero_from(bytes, 29)
 }
 
 // What the bytes say, whatever they are.
