@@ -1,15 +1,13 @@
 -- What reading gives, by the parts of the meta test.
 use Prim.Native.Nat.{ℕ, _<_, _≤_, _%_, _^_}
-use mathlib.Core.Path.{_≡_, refl, sym, ap, _∙_}
-use mathlib.Core.Bool.{Bool, true, false, _&&_, cond}
+use mathlib.Core.Path.{_≡_, sym, ap, _∙_}
+use mathlib.Core.Bool.{true, false, cond}
 use mathlib.Core.List.{List}
 use mathlib.Core.Logic.{⊎-elim}
 use native.Mathlib.Omega.{arith}
 use lib.ListN.{length, getD}
-use lib.Dec.{ltb}
 use Rattle.std.proofs.shelf.Equals.{sameBytes-decides}
 use Rattle.std.proofs.shelf.Tests.{and-parts, and-from, cases-bool, both-ways, eqb-true, leb-true, ltb-true, eq-eqb, le-leb, lt-ltb, le-ltb}
-use Rattle.std.specs.declared.option.Option.{Option}
 use Rattle.std.specs.declared.option.Option.the-variants.{Some, None}
 use Rattle.checksum.specs.Crc.{crcOf}
 use Rattle.checksum.specs.Sealed.{isSealed}

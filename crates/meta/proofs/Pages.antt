@@ -1,11 +1,10 @@
 -- A meta page from its parts, with its checksum, and back.
-use Prim.Native.Nat.{ℕ, suc, _+_, _-_, _*_, _<_, _≤_, _^_}
+use Prim.Native.Nat.{ℕ, suc, _+_, _-_, _*_, _<_, _≤_}
 use mathlib.Core.Path.{_≡_, refl, sym, ap, _∙_}
 use mathlib.Core.Bool.{true}
 use mathlib.Core.List.{List, [], _∷_, _++_}
 use native.Mathlib.Omega.{arith}
-use lib.ListN.{length, take, drop, getD, set, replicate}
-use Rattle.std.specs.shelf.Text.{sameBytes}
+use lib.ListN.{length, take, drop, getD, set}
 use Rattle.std.proofs.shelf.Counted.{fill-by-all}
 use Rattle.std.proofs.shelf.Equals.{sameBytes-decides}
 use Rattle.std.proofs.shelf.Lists.{take-append-drop, drop-drop, length-drop, length-take-le, getD-take, getD-drop, getD-append-right, getD-replicate}
@@ -68,10 +67,19 @@ module _ (m : Meta) where
   unfolding laidOut
   page-length = ap length page-laid
 
-  -- what encoding writes
-  pub written : sealed (set (over 24 (le32 (m .pairs)) (over 16 (le64 (m .commit)) (over 8 (le32 (m .root)) (over 4 (le32 (m .pages)) (set (set (zeros 512) 0 3) 1 1))))) 28 (m .levels)) ≡ metaPage m
+  written : sealed (set (over 24 (le32 (m .pairs)) (over 16 (le64 (m .commit)) (over 8 (le32 (m .root)) (over 4 (le32 (m .pages)) (set (set (zeros 512) 0 3) 1 1))))) 28 (m .levels)) ≡ metaPage m
   unfolding metaPage laidOut over
   written = ap sealed refl
+
+  -- what encoding writes, step by step
+  pub encoded : {n r c p d e f g h : List ℕ} → n ≡ le32 (m .pages) → d ≡ over 4 n (set (set (zeros 512) 0 3) 1 1)
+      → r ≡ le32 (m .root) → e ≡ over 8 r d
+      → c ≡ le64 (m .commit) → f ≡ over 16 c e
+      → p ≡ le32 (m .pairs) → g ≡ over 24 p f
+      → h ≡ sealed (set g 28 (m .levels)) → h ≡ metaPage m
+  encoded en ed er ee ec ef ep eg eh =
+      let w = written in
+      cc
 
 -- the checksum being right, sealing changes nothing
 pub sealed-back : (b : List ℕ) → isSealed b ≡ true → sealed b ≡ b
