@@ -8,3 +8,5 @@ pub mod Splices
 pub mod Views
 pub mod Shorts
 pub mod Growths
+pub mod Faults
+pub mod Loads
