@@ -8,9 +8,12 @@ use std::test::*;
 
 // The leaf with one pair more, which has to fit.
 fn put(leaf: &LeafPage, key: &[u8], value: &[u8]) -> Result<LeafPage, Fail> {
-    match leaf.put(key, value) {
-        Some(Grown::One(leaf)) => Ok(leaf),
-        _ => Err(Fail::new("no leaf")),
+    let Some(grown) = leaf.put(key, value) else {
+        return Err(Fail::new("not put"));
+    };
+    match grown {
+        Grown::One(leaf) => Ok(leaf),
+        Grown::Two(_, _, _) => Err(Fail::new("cut")),
     }
 }
 
@@ -55,13 +58,16 @@ fn lengths_of_keys_and_values() -> Result<(), Fail> {
 fn three_large_cells_are_cut_after_the_first() -> Result<(), Fail> {
     let leaf = put(&LeafPage::empty(), &[1; 64], &[0; 128])?;
     let leaf = put(&leaf, &[2; 64], &[0; 128])?;
-    match leaf.put(&[3; 64], &[0; 128]) {
-        Some(Grown::Two(left, separator, right)) => {
+    let Some(grown) = leaf.put(&[3; 64], &[0; 128]) else {
+        return Err(Fail::new("not put"));
+    };
+    match grown {
+        Grown::One(_) => Err(Fail::new("not cut")),
+        Grown::Two(left, separator, right) => {
             check_eq(left.len(), 1)?;
             check_eq(right.len(), 2)?;
             check(separator.as_slice() == &[2])
         }
-        _ => Err(Fail::new("not cut")),
     }
 }
 
