@@ -4,10 +4,10 @@ ghost use Rattle.checksum.specs.Crc.{crcFrom, crcOf};
 use crate::table::entry;
 
 // The register before the first byte, and what it is turned by after the last.
-pub const ALL_BITS: u32 = 0xffff_ffff;
+pub(crate) const ALL_BITS: u32 = 0xffff_ffff;
 
 // The register after some bytes more: one look into the table for each.
-pub fn update(register: u32, bytes: &[u8]) -> u32
+pub(crate) fn update(register: u32, bytes: &[u8]) -> u32
     ensures { λ r. ⌜ r ≡ crcFrom register (now (bytes .entry)) ⌝ }
 {
     let mut r = register;

@@ -262,7 +262,7 @@ const TABLE: [u32; 256] = [
     0x2d02_ef8d,
 ];
 
-pub fn entry(byte: usize) -> u32
+pub(crate) fn entry(byte: usize) -> u32
     requires { ⌜ byte < 256 ⌝ }
     ensures { λ r. ⌜ r ≡ steps 8 byte ⌝ }
 {

@@ -18,7 +18,7 @@ use device::PAGE_SIZE;
 use device::Page;
 
 // The page of no cells.
-pub fn start<C: Cell>(page: &mut Page, leftmost: u32)
+pub(crate) fn start<C: Cell>(page: &mut Page, leftmost: u32)
     ensures laid { λ _. ⌜ Laid (rules .kind) (now (page .exit)) ⌝ }
     ensures left { λ _. ⌜ leftOf (now (page .exit)) ≡ leftmost ⌝ }
     ensures sum { λ _. ⌜ sumOf (now (page .exit)) ≡ 0 ⌝ }
@@ -31,20 +31,20 @@ pub fn start<C: Cell>(page: &mut Page, leftmost: u32)
     put(page, 8, &leftmost.to_le_bytes());
 }
 
-pub fn count_of(page: &Page) -> usize
+pub(crate) fn count_of(page: &Page) -> usize
     ensures { λ r. ⌜ r ≡ length (cellsOf (now (page .entry))) ⌝ }
 {
     read16(page, 2)
 }
 
-pub fn leftmost_of(page: &Page) -> u32
+pub(crate) fn leftmost_of(page: &Page) -> u32
     ensures { λ r. ⌜ r ≡ leftOf (now (page .entry)) ⌝ }
 {
     read32(page, 8)
 }
 
 // Where the lowest cell begins.
-pub fn lowest_of<C: Cell>(page: &Page) -> usize
+pub(crate) fn lowest_of<C: Cell>(page: &Page) -> usize
     requires { ⌜ Laid (rules .kind) (now page) ⌝ }
     ensures { λ r. ⌜ r + length (bodies (cellsOf (now (page .entry)))) ≡ 512 ⌝ }
 {
@@ -52,7 +52,7 @@ pub fn lowest_of<C: Cell>(page: &Page) -> usize
 }
 
 // One more cell, for which there is room.
-pub fn append<C: Cell>(page: &mut Page, body: &[u8])
+pub(crate) fn append<C: Cell>(page: &mut Page, body: &[u8])
     requires laid { ⌜ Laid (rules .kind) (now page) ⌝ }
     requires room { ⌜ cost (cellsOf (now page)) + 2 + length (now body) ≤ 496 ⌝ }
     ensures laid { λ _. ⌜ Laid (rules .kind) (now (page .exit)) ⌝ }
@@ -70,7 +70,7 @@ pub fn append<C: Cell>(page: &mut Page, body: &[u8])
 }
 
 // Where cell i ends, which is where the cell before it begins.
-pub fn edge(page: &Page, i: usize) -> usize
+pub(crate) fn edge(page: &Page, i: usize) -> usize
     requires { ⌜ i ≤ 248 ⌝ }
     ensures { λ r. ⌜ r ≡ edgeAt (now (page .entry)) i ⌝ }
 {
@@ -81,7 +81,7 @@ pub fn edge(page: &Page, i: usize) -> usize
     }
 }
 
-pub fn cell_at<C: Cell>(page: &Page, i: usize) -> &[u8]
+pub(crate) fn cell_at<C: Cell>(page: &Page, i: usize) -> &[u8]
     requires laid { ⌜ Laid (rules .kind) (now page) ⌝ }
     requires within { ⌜ i < length (cellsOf (now page)) ⌝ }
     ensures { λ r. ⌜ now r ≡ getD (cellsOf (now (page .entry))) i [] ⌝ }
@@ -92,7 +92,7 @@ pub fn cell_at<C: Cell>(page: &Page, i: usize) -> &[u8]
 }
 
 // The bytes that the cells from i up to j cost.
-pub fn cost_between<C: Cell>(page: &Page, i: usize, j: usize) -> usize
+pub(crate) fn cost_between<C: Cell>(page: &Page, i: usize, j: usize) -> usize
     requires laid { ⌜ Laid (rules .kind) (now page) ⌝ }
     requires ordered { ⌜ i ≤ j ⌝ }
     requires within { ⌜ j ≤ length (cellsOf (now page)) ⌝ }
@@ -102,7 +102,7 @@ pub fn cost_between<C: Cell>(page: &Page, i: usize, j: usize) -> usize
     2 * (j - i) + edge(page, i) - edge(page, j)
 }
 
-pub fn key_at<C: Cell>(page: &Page, i: usize) -> &[u8]
+pub(crate) fn key_at<C: Cell>(page: &Page, i: usize) -> &[u8]
     requires laid { ⌜ Laid (rules .kind) (now page) ⌝ }
     requires goods { ⌜ every (rules .good) (cellsOf (now page)) ≡ true ⌝ }
     requires within { ⌜ i < length (cellsOf (now page)) ⌝ }

@@ -29,14 +29,14 @@ fn loose(list: &Splice) -> usize
     }
 }
 
-pub fn len<C: Cell>(list: &Splice) -> usize
+pub(crate) fn len<C: Cell>(list: &Splice) -> usize
     requires { ⌜ Spliced (rules .kind) (now list) ⌝ }
     ensures { λ r. ⌜ r ≡ length (cellsIn (now (list .entry))) ⌝ }
 {
     list.keep + loose(list) + (count_of(list.back) - list.skip)
 }
 
-pub fn body<'a, C: Cell>(list: &Splice<'a>, i: usize) -> &'a [u8]
+pub(crate) fn body<'a, C: Cell>(list: &Splice<'a>, i: usize) -> &'a [u8]
     requires spliced { ⌜ Spliced (rules .kind) (now list) ⌝ }
     requires within { ⌜ i < length (cellsIn (now list)) ⌝ }
     ensures { λ r. ⌜ now r ≡ getD (cellsIn (now (list .entry))) i [] ⌝ }
@@ -58,7 +58,7 @@ pub fn body<'a, C: Cell>(list: &Splice<'a>, i: usize) -> &'a [u8]
 }
 
 // The bytes that the list costs.
-pub fn cost<C: Cell>(list: &Splice) -> usize
+pub(crate) fn cost<C: Cell>(list: &Splice) -> usize
     requires { ⌜ Spliced (rules .kind) (now list) ⌝ }
     ensures value { λ r. ⌜ r ≡ cost (cellsIn (now (list .entry))) ⌝ }
     ensures bound { λ r. ⌜ r ≤ 1188 ⌝ }
@@ -72,7 +72,7 @@ pub fn cost<C: Cell>(list: &Splice) -> usize
 }
 
 // The page of the cells from one place up to another.
-pub fn build<C: Cell>(list: &Splice, from: usize, to: usize, leftmost: u32, page: &mut Page)
+pub(crate) fn build<C: Cell>(list: &Splice, from: usize, to: usize, leftmost: u32, page: &mut Page)
     requires spliced { ⌜ Spliced (rules .kind) (now list) ⌝ }
     requires ordered { ⌜ from ≤ to ⌝ }
     requires within { ⌜ to ≤ length (cellsIn (now list)) ⌝ }
@@ -89,7 +89,7 @@ pub fn build<C: Cell>(list: &Splice, from: usize, to: usize, leftmost: u32, page
 }
 
 // How many cells an overfull leaf keeps: the cut whose larger part is cheapest.
-pub fn leaf_cut<C: Cell>(list: &Splice) -> usize
+pub(crate) fn leaf_cut<C: Cell>(list: &Splice) -> usize
     requires { ⌜ Spliced (rules .kind) (now list) ⌝ }
     ensures { λ r. ⌜ r ≡ fair bodyCost 0 (cellsIn (now (list .entry))) ⌝ }
 {
@@ -108,7 +108,7 @@ pub fn leaf_cut<C: Cell>(list: &Splice) -> usize
 }
 
 // Which cell an overfull branch gives up: the first at which it and those before it cost more than half.
-pub fn branch_cut<C: Cell>(list: &Splice) -> usize
+pub(crate) fn branch_cut<C: Cell>(list: &Splice) -> usize
     requires { ⌜ Spliced (rules .kind) (now list) ⌝ }
     ensures { λ r. ⌜ r ≡ middle bodyCost (total bodyCost (cellsIn (now (list .entry)))) 0 (cellsIn (now (list .entry))) ⌝ }
 {
@@ -125,7 +125,7 @@ pub fn branch_cut<C: Cell>(list: &Splice) -> usize
 }
 
 // The page of the cells from one place up to another, with its checksum.
-pub fn part<C: Cell>(list: &Splice, from: usize, to: usize, leftmost: u32) -> Page
+pub(crate) fn part<C: Cell>(list: &Splice, from: usize, to: usize, leftmost: u32) -> Page
     requires spliced { ⌜ Spliced (rules .kind) (now list) ⌝ }
     requires ordered { ⌜ from ≤ to ⌝ }
     requires within { ⌜ to ≤ length (cellsIn (now list)) ⌝ }

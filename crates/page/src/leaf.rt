@@ -6,6 +6,7 @@ use device::Page;
 
 mod calls;
 mod edits;
+mod loads;
 mod reads;
 
 // A leaf: its bytes are a page that reading accepts, with its checksum.

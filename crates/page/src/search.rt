@@ -10,7 +10,7 @@ use cuts::key_less;
 use device::Page;
 
 // How many of the page's keys are at most the one sought: the place of the first greater one.
-pub fn place_above<C: Cell>(page: &Page, sought: &[u8]) -> usize
+pub(crate) fn place_above<C: Cell>(page: &Page, sought: &[u8]) -> usize
     requires laid { ⌜ Laid (rules .kind) (now page) ⌝ }
     requires goods { ⌜ every (rules .good) (cellsOf (now page)) ≡ true ⌝ }
     requires rises { ⌜ rising (rules .key) (cellsOf (now page)) ≡ true ⌝ }

@@ -67,7 +67,7 @@ fn has_header<C: Cell>(page: &Page, lowest: usize) -> bool
 }
 
 // Whether the bytes are the page of the cells that they say, with whatever checksum.
-pub fn is_laid_out<C: Cell>(page: &Page) -> bool
+pub(crate) fn is_laid_out<C: Cell>(page: &Page) -> bool
     ensures { λ r. ⌜ r ≡ layout rules (now (page .entry)) ⌝ }
 {
     let n = count_of(page);
@@ -103,7 +103,7 @@ fn is_rising<C: Cell>(page: &Page) -> bool
 }
 
 // The first fault of the page, its checksum left out.
-pub fn shape_fault<C: Cell>(page: &Page) -> Option<Cause>
+pub(crate) fn shape_fault<C: Cell>(page: &Page) -> Option<Cause>
     ensures { λ r. ⌜ r ≡ shapeFault rules (now (page .entry)) ⌝ }
 {
     if page[0] != C::kind_byte() {
@@ -118,7 +118,7 @@ pub fn shape_fault<C: Cell>(page: &Page) -> Option<Cause>
     None
 }
 
-pub fn first_fault<C: Cell>(page: &Page) -> Option<Cause>
+pub(crate) fn first_fault<C: Cell>(page: &Page) -> Option<Cause>
     ensures { λ r. ⌜ r ≡ firstFault rules (now (page .entry)) ⌝ }
 {
     if !is_sealed(page) {

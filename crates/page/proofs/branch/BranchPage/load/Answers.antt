@@ -1,6 +1,6 @@
 use borrow.Author.Needs.{needs}
 use Rattle.std.proofs.shelf.Results.{err-from-errBy}
-use Rattle.page.proofs.load.load_leaf.Needs as need
+use Rattle.page.proofs.branch.BranchPage.load.Needs as need
 
 pub returns-in-Break-read : need.returns-in-Break-read
 returns-in-Break-read g c =
