@@ -15,3 +15,4 @@ pub mod Fits
 pub mod Finds
 pub mod Puts
 pub mod OnePage
+pub mod ExactlyOne

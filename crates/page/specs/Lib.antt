@@ -10,3 +10,4 @@ pub mod Shorts
 pub mod Growths
 pub mod Faults
 pub mod Loads
+pub mod Laws

@@ -7,6 +7,7 @@ mod edit;
 mod fault;
 mod grown;
 mod known;
+pub mod laws;
 mod leaf;
 mod search;
 mod short;
