@@ -1,3 +1,4 @@
+// Leaves; the checksums of whole pages were computed by another program.
 use device::Page;
 use page::Cause;
 use page::CauseDebug;
@@ -24,7 +25,8 @@ fn empty_leaf() -> Result<(), Fail> {
     let bytes = leaf.bytes();
     check_eq(bytes[0], 1)?;
     check_eq(bytes[4], 0x00)?;
-    check_eq(bytes[5], 0x02)
+    check_eq(bytes[5], 0x02)?;
+    check(&bytes[12..16] == &[0xa6, 0x84, 0x00, 0x15])
 }
 
 #[test]
@@ -37,6 +39,7 @@ fn one_pair() -> Result<(), Fail> {
     check_eq(bytes[509], 0x01)?;
     check_eq(bytes[510], 0x6b)?;
     check_eq(bytes[511], 0x76)?;
+    check(&bytes[12..16] == &[0x60, 0x53, 0x9d, 0x43])?;
     check_eq(leaf.find(b"k"), Some(0))?;
     check_eq(leaf.find(b"j"), None)?;
     check_eq(leaf.above(b"j"), 0)?;

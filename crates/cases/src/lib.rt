@@ -6,5 +6,8 @@ mod caches;
 mod checksums;
 #[cfg(test)]
 mod devices;
+pub mod examples;
 #[cfg(test)]
 mod leaves;
+#[cfg(test)]
+mod metas;
