@@ -12,3 +12,4 @@ pub mod Sounds
 pub mod Parts
 pub mod Leaves
 pub mod Fits
+pub mod Branches

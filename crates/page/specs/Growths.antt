@@ -8,7 +8,7 @@ use Rattle.std.specs.declared.option.Option.the-variants.{Some, None}
 use Rattle.cuts.specs.Keys.{KeyFits}
 use Rattle.cuts.specs.Nodes.{Pair, Branch}
 use Rattle.tree.specs.Maps.{insert, delete}
-use Rattle.tree.specs.Trees.{leafCost}
+use Rattle.tree.specs.Trees.{leafCost, branchCost}
 use Rattle.tree.specs.Edits as tree
 use Rattle.page.specs.Shorts.{held}
 use Rattle.page.specs.Views.{leafPairs, branchNode}
@@ -33,3 +33,7 @@ fitted ps = tree.fit leafCost tree.cutLeaf ps
 abbrev pub PutsPair : LeafPage → List ℕ → List ℕ → Option (Grown LeafPage) → Type 0
 PutsPair p k v None = KeyFits k × (length v ≤ 128) → ⊥
 PutsPair p k v (Some g) = KeyFits k × (length v ≤ 128) × (leafGrown g ≡ fitted (insert k v (leafPairs p)))
+
+-- a branch, cut if it is too full
+abbrev pub fittedBranch : Branch ℕ → tree.Grown (Branch ℕ)
+fittedBranch b = tree.fit branchCost tree.cutBranch b

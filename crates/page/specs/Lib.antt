@@ -8,3 +8,4 @@ pub mod Splices
 pub mod Views
 pub mod Shorts
 pub mod Growths
+pub mod Branches

@@ -4,6 +4,7 @@ ghost use Rattle.page.specs.Kinds.{branchRules};
 ghost use Rattle.page.specs.Reading.{sound};
 use device::Page;
 
+mod edits;
 mod reads;
 
 // A branch: its bytes are a page that reading accepts, with its checksum.
