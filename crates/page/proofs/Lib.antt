@@ -13,3 +13,4 @@ pub mod Parts
 pub mod Leaves
 pub mod Fits
 pub mod Branches
+pub mod Children

@@ -12,7 +12,9 @@ use Rattle.cuts.specs.Keys.{key<}
 use Rattle.cuts.specs.Nodes.{Cell, Branch}
 use Rattle.tree.specs.Places.{separatorAt}
 use Rattle.tree.specs.Search.{childAt}
-use Rattle.page.specs.Layout.{cost}
+use Rattle.page.specs.Kinds.{branchGood, branchKey}
+use Rattle.page.specs.Layout.{Laid, cost, cellsOf}
+use Rattle.page.specs.Reading.{every, rising}
 
 -- child i, if there is one; child 0 is the leftmost one
 abbrev pub childOf : ℕ → Branch ℕ → Option ℕ
@@ -44,3 +46,9 @@ pub record CutsBranch (xs : List (List ℕ)) (i : ℕ) : Type 0 where
   pub within : i < length xs
   pub left : cost (between 0 i xs) ≤ 496
   pub right : cost (between (i + 1) (length xs) xs) ≤ 496
+
+-- what reading finds of a branch's bytes
+pub record BranchBytes (b : List ℕ) : Type 0 where
+  pub laid : Laid 2 b
+  pub goods : every branchGood (cellsOf b) ≡ true
+  pub rises : rising branchKey (cellsOf b) ≡ true

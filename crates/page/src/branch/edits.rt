@@ -15,8 +15,8 @@ ghost use Rattle.page.specs.Reading.{every, rising};
 ghost use Rattle.page.specs.Shorts.{held};
 ghost use Rattle.page.specs.Splices.{cellsIn, Spliced};
 ghost use Rattle.page.specs.Views.{branchNode};
-ghost use Rattle.page.specs.Words.{word32};
 use crate::branch::BranchPage;
+use crate::branch::reads::child_of;
 use crate::cell::BranchCell;
 use crate::cell::BranchKind;
 use crate::cell::Cell;
@@ -54,13 +54,6 @@ fn overfull_cut(list: &Splice) -> usize
     ensures parts { λ r. ⌜ CutsBranch (cellsIn (now (list .entry))) r ⌝ }
 {
     branch_cut::<BranchCell>(list)
-}
-
-fn child_of(cell: &[u8]) -> u32
-    requires { ⌜ branchGood (now cell) ≡ true ⌝ }
-    ensures { λ r. ⌜ r ≡ word32 (now (cell .entry)) 2 ⌝ }
-{
-    u32::from_le_bytes([cell[2], cell[3], cell[4], cell[5]])
 }
 
 fn separator_of(cell: &[u8]) -> Short
