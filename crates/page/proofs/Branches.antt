@@ -13,6 +13,7 @@ use Rattle.std.proofs.shelf.Lists.{length-drop, length-map, drop-more}
 use Rattle.std.proofs.shelf.Parts.{between-to-end}
 use Rattle.std.proofs.shelf.Tests.{and-parts, leb-true, eqb-true, le-leb, lt-leb}
 use Rattle.cuts.specs.Cuts.{total, middle}
+use Rattle.cuts.specs.Keys.{KeyFits}
 use Rattle.cuts.specs.Laws.{BranchPartsFit}
 use Rattle.cuts.specs.Nodes.{Cell, Branch, cellCost}
 use Rattle.cuts.proofs.Balance.{branch-parts}
@@ -45,6 +46,17 @@ branch-parts-of b h =
 
 pub key-length : (b : List ℕ) → branchGood b ≡ true → length (branchKey b) ≡ getD b 0 0
 key-length b h = let p = branch-parts-of b h in omega (arith, length-drop 6 b, p .long)
+
+pub length-good : (b : List ℕ) → branchGood b ≡ true → length b ≡ 6 + length (branchKey b)
+length-good b h = let p = branch-parts-of b h in omega (arith, key-length b h, p .long)
+
+pub body-small : (b : List ℕ) → branchGood b ≡ true → length b ≤ 70
+body-small b h = let p = branch-parts-of b h in omega (arith, p .long, p .short)
+
+pub key-fits : (b : List ℕ) → branchGood b ≡ true → KeyFits (branchKey b)
+key-fits b h =
+    let p = branch-parts-of b h in
+    (omega (arith, key-length b h, p .some), omega (arith, key-length b h, p .short))
 
 pub cell-cost : (b : List ℕ) → branchGood b ≡ true → cellCost (cellOf b) ≡ bodyCost b
 cell-cost b h = let p = branch-parts-of b h in omega (arith, length-drop 6 b, p .long)

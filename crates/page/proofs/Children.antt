@@ -74,7 +74,7 @@ child-after i x [] h = absurd (omega arith)
 child-after zero x (y ∷ xs) h = refl
 child-after (suc i) x (y ∷ xs) h = child-after i (word32 y 2) xs (omega arith)
 
-separator-at : (i : ℕ) (xs : List (List ℕ)) → i < length xs → separatorAt i (map cellOf xs) ≡ branchKey (getD xs i [])
+pub separator-at : (i : ℕ) (xs : List (List ℕ)) → i < length xs → separatorAt i (map cellOf xs) ≡ branchKey (getD xs i [])
 separator-at i [] h = absurd (omega arith)
 separator-at zero (y ∷ xs) h = refl
 separator-at (suc i) (y ∷ xs) h = separator-at i xs (omega arith)

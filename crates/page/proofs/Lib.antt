@@ -14,3 +14,5 @@ pub mod Leaves
 pub mod Fits
 pub mod Branches
 pub mod Children
+pub mod BranchOrders
+pub mod BranchLists

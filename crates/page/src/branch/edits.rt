@@ -1,14 +1,15 @@
 ghost use mathlib.Core.Path.{_≡_};
 ghost use mathlib.Core.Bool.{true};
-ghost use mathlib.Core.List.{map};
-ghost use Prim.Native.Nat.{_<_, _≤_};
-ghost use lib.ListN.{length};
+ghost use mathlib.Core.List.{_∷_, _++_, map};
+ghost use Prim.Native.Nat.{_+_, _<_, _≤_};
+ghost use lib.ListN.{length, take, drop};
 ghost use Rattle.std.specs.Holes.{between};
 ghost use Rattle.cuts.specs.Cuts.{total, middle};
 ghost use Rattle.cuts.specs.Nodes.{cellCost};
-ghost use Rattle.tree.specs.Trees.{branch};
-ghost use Rattle.page.specs.Branches.{CutsBranch};
-ghost use Rattle.page.specs.Growths.{branchGrown, fittedBranch};
+ghost use Rattle.tree.specs.Places.{separatorAt};
+ghost use Rattle.tree.specs.Trees.{branch, cell};
+ghost use Rattle.page.specs.Branches.{CutsBranch, ascending, endsBelow, startsAbove};
+ghost use Rattle.page.specs.Growths.{branchGrown, fittedBranch, Fits};
 ghost use Rattle.page.specs.Kinds.{branchGood, branchKey, cellOf};
 ghost use Rattle.page.specs.Layout.{cost};
 ghost use Rattle.page.specs.Reading.{every, rising};
@@ -20,6 +21,9 @@ use crate::branch::reads::child_of;
 use crate::cell::BranchCell;
 use crate::cell::BranchKind;
 use crate::cell::Cell;
+use crate::draft::count_of;
+use crate::draft::key_at;
+use crate::draft::leftmost_of;
 use crate::edit::body;
 use crate::edit::branch_cut;
 use crate::edit::cost;
@@ -28,6 +32,7 @@ use crate::edit::part;
 use crate::grown::Grown;
 use crate::short::Short;
 use crate::splice::Splice;
+use cuts::key_less;
 
 // The branch of the cells from one place up to another.
 fn branch_part(list: &Splice, from: usize, to: usize, leftmost: u32) -> BranchPage
@@ -84,4 +89,148 @@ fn fit(list: &Splice, leftmost: u32) -> Grown<BranchPage>
         separator_of(given),
         branch_part(list, at + 1, n, child_of(given)),
     )
+}
+
+// The cells as one branch.
+fn whole(list: &Splice, leftmost: u32) -> BranchPage
+    requires spliced { ⌜ Spliced 2 (now list) ⌝ }
+    requires goods { ⌜ every branchGood (cellsIn (now list)) ≡ true ⌝ }
+    requires rises { ⌜ rising branchKey (cellsIn (now list)) ≡ true ⌝ }
+    requires room { ⌜ cost (cellsIn (now list)) ≤ 496 ⌝ }
+    ensures { λ r. ⌜ branchNode r ≡ branch leftmost (map cellOf (cellsIn (now (list .entry)))) ⌝ }
+{
+    let n = len::<BranchCell>(list);
+    branch_part(list, 0, n, leftmost)
+}
+
+// The same cells after another leftmost child.
+pub(crate) fn with_first(page: &BranchPage, leftmost: u32) -> BranchPage
+    ensures { λ r. ⌜ branchNode r ≡ branch leftmost (branchNode (now (page .entry)) .rest) ⌝ }
+{
+    let list = Splice {
+        front: &page.bytes,
+        keep: 0,
+        middle: None,
+        back: &page.bytes,
+        skip: 0,
+    };
+    whole(&list, leftmost)
+}
+
+// All cells but one.
+pub(crate) fn without(page: &BranchPage, i: usize) -> BranchPage
+    requires { ⌜ i < length (branchNode (now page) .rest) ⌝ }
+    ensures { λ r. ⌜ branchNode r ≡ branch (branchNode (now (page .entry)) .first) (take i (branchNode (now (page .entry)) .rest) ++ drop (i + 1) (branchNode (now (page .entry)) .rest)) ⌝ }
+{
+    let list = Splice {
+        front: &page.bytes,
+        keep: i,
+        middle: None,
+        back: &page.bytes,
+        skip: i + 1,
+    };
+    whole(&list, leftmost_of(&page.bytes))
+}
+
+// Another cell with the same separator in place of one.
+fn set_cell<'a>(page: &'a BranchPage, i: usize, cell: &'a [u8]) -> BranchPage
+    requires within { ⌜ i < length (branchNode (now page) .rest) ⌝ }
+    requires good { ⌜ branchGood (now cell) ≡ true ⌝ }
+    requires same { ⌜ branchKey (now cell) ≡ separatorAt i (branchNode (now page) .rest) ⌝ }
+    ensures { λ r. ⌜ branchNode r ≡ branch (branchNode (now (page .entry)) .first) (take i (branchNode (now (page .entry)) .rest) ++ cellOf (now (cell .entry)) ∷ drop (i + 1) (branchNode (now (page .entry)) .rest)) ⌝ }
+{
+    let list = Splice {
+        front: &page.bytes,
+        keep: i,
+        middle: Some(cell),
+        back: &page.bytes,
+        skip: i + 1,
+    };
+    whole(&list, leftmost_of(&page.bytes))
+}
+
+// Another child for one of the cells.
+pub(crate) fn with_later(page: &BranchPage, i: usize, child: u32) -> BranchPage
+    requires { ⌜ i < length (branchNode (now page) .rest) ⌝ }
+    ensures { λ r. ⌜ branchNode r ≡ branch (branchNode (now (page .entry)) .first) (take i (branchNode (now (page .entry)) .rest) ++ cell (separatorAt i (branchNode (now (page .entry)) .rest)) child ∷ drop (i + 1) (branchNode (now (page .entry)) .rest)) ⌝ }
+{
+    let cell = Short::branch_cell(key_at::<BranchCell>(&page.bytes, i), child);
+    set_cell(page, i, cell.as_slice())
+}
+
+// The first cells of a branch, a new one, and the last cells of a branch.
+fn with_cell<'a>(
+    front: &'a BranchPage,
+    keep: usize,
+    cell: &'a [u8],
+    back: &'a BranchPage,
+    skip: usize,
+) -> Grown<BranchPage>
+    requires keep { ⌜ keep ≤ length (branchNode (now front) .rest) ⌝ }
+    requires skip { ⌜ skip ≤ length (branchNode (now back) .rest) ⌝ }
+    requires good { ⌜ branchGood (now cell) ≡ true ⌝ }
+    requires rises { ⌜ ascending (take keep (branchNode (now front) .rest) ++ cellOf (now cell) ∷ drop skip (branchNode (now back) .rest)) ≡ true ⌝ }
+    requires few { ⌜ total cellCost (take keep (branchNode (now front) .rest)) + total cellCost (drop skip (branchNode (now back) .rest)) ≤ 619 ⌝ }
+    ensures { λ r. ⌜ branchGrown r ≡ fittedBranch (branch (branchNode (now (front .entry)) .first) (take keep (branchNode (now (front .entry)) .rest) ++ cellOf (now (cell .entry)) ∷ drop skip (branchNode (now (back .entry)) .rest))) ⌝ }
+{
+    let list = Splice {
+        front: &front.bytes,
+        keep,
+        middle: Some(cell),
+        back: &back.bytes,
+        skip,
+    };
+    fit(&list, leftmost_of(&front.bytes))
+}
+
+// Whether a separator is above those of the first cells.
+fn is_above(page: &BranchPage, n: usize, separator: &[u8]) -> bool
+    requires { ⌜ n ≤ length (branchNode (now page) .rest) ⌝ }
+    ensures { λ r. ⌜ r ≡ endsBelow (take n (branchNode (now (page .entry)) .rest)) (now (separator .entry)) ⌝ }
+{
+    if n == 0 {
+        return true;
+    }
+    key_less(key_at::<BranchCell>(&page.bytes, n - 1), separator)
+}
+
+// Whether a separator is below those of the last cells.
+fn is_below(page: &BranchPage, n: usize, separator: &[u8]) -> bool
+    ensures { λ r. ⌜ r ≡ startsAbove (now (separator .entry)) (drop n (branchNode (now (page .entry)) .rest)) ⌝ }
+{
+    if n >= count_of(&page.bytes) {
+        return true;
+    }
+    key_less(separator, key_at::<BranchCell>(&page.bytes, n))
+}
+
+// The first cells of a branch, a cell of this separator and child, and the last cells of a branch; none, if that
+// cannot be a separator there.
+pub(crate) fn placed(
+    front: &BranchPage,
+    keep: usize,
+    separator: &[u8],
+    child: u32,
+    back: &BranchPage,
+    skip: usize,
+) -> Option<Grown<BranchPage>>
+    requires keep { ⌜ keep ≤ length (branchNode (now front) .rest) ⌝ }
+    requires skip { ⌜ skip ≤ length (branchNode (now back) .rest) ⌝ }
+    requires few { ⌜ total cellCost (take keep (branchNode (now front) .rest)) + total cellCost (drop skip (branchNode (now back) .rest)) ≤ 619 ⌝ }
+    ensures { λ r. ⌜ Fits (now (separator .entry)) (branch (branchNode (now (front .entry)) .first) (take keep (branchNode (now (front .entry)) .rest) ++ cell (now (separator .entry)) child ∷ drop skip (branchNode (now (back .entry)) .rest))) r ⌝ }
+{
+    if separator.len() < 1 {
+        return None;
+    }
+    if separator.len() > 64 {
+        return None;
+    }
+    if !is_above(front, keep, separator) {
+        return None;
+    }
+    if !is_below(back, skip, separator) {
+        return None;
+    }
+    let cell = Short::branch_cell(separator, child);
+    Some(with_cell(front, keep, cell.as_slice(), back, skip))
 }
