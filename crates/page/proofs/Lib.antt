@@ -16,3 +16,4 @@ pub mod Branches
 pub mod Children
 pub mod BranchOrders
 pub mod BranchLists
+pub mod BranchSteps

@@ -1,6 +1,6 @@
 ghost use mathlib.Core.Path.{_≡_};
-ghost use mathlib.Core.Bool.{true};
-ghost use mathlib.Core.List.{_∷_, _++_, map};
+ghost use mathlib.Core.Bool.{true, _||_};
+ghost use mathlib.Core.List.{[], _∷_, _++_, map};
 ghost use Prim.Native.Nat.{_+_, _<_, _≤_};
 ghost use lib.ListN.{length, take, drop};
 ghost use Rattle.std.specs.Holes.{between};
@@ -9,9 +9,9 @@ ghost use Rattle.cuts.specs.Nodes.{cellCost};
 ghost use Rattle.tree.specs.Places.{separatorAt};
 ghost use Rattle.tree.specs.Trees.{branch, cell};
 ghost use Rattle.page.specs.Branches.{CutsBranch, ascending, endsBelow, startsAbove};
-ghost use Rattle.page.specs.Growths.{branchGrown, fittedBranch, Fits};
+ghost use Rattle.page.specs.Growths.{branchGrown, fittedBranch, light, GrowsTo};
 ghost use Rattle.page.specs.Kinds.{branchGood, branchKey, cellOf};
-ghost use Rattle.page.specs.Layout.{cost};
+ghost use Rattle.page.specs.Layout.{Laid, cost, cellsOf};
 ghost use Rattle.page.specs.Reading.{every, rising};
 ghost use Rattle.page.specs.Shorts.{held};
 ghost use Rattle.page.specs.Splices.{cellsIn, Spliced};
@@ -33,6 +33,7 @@ use crate::grown::Grown;
 use crate::short::Short;
 use crate::splice::Splice;
 use cuts::key_less;
+use device::Page;
 
 // The branch of the cells from one place up to another.
 fn branch_part(list: &Splice, from: usize, to: usize, leftmost: u32) -> BranchPage
@@ -183,6 +184,23 @@ fn with_cell<'a>(
     fit(&list, leftmost_of(&front.bytes))
 }
 
+// One cell alone.
+pub(crate) fn single<'a>(empty: &'a Page, cell: &'a [u8], leftmost: u32) -> BranchPage
+    requires laid { ⌜ Laid 2 (now empty) ⌝ }
+    requires none { ⌜ cellsOf (now empty) ≡ [] ⌝ }
+    requires good { ⌜ branchGood (now cell) ≡ true ⌝ }
+    ensures { λ r. ⌜ branchNode r ≡ branch leftmost (cellOf (now (cell .entry)) ∷ []) ⌝ }
+{
+    let list = Splice {
+        front: empty,
+        keep: 0,
+        middle: Some(cell),
+        back: empty,
+        skip: 0,
+    };
+    whole(&list, leftmost)
+}
+
 // Whether a separator is above those of the first cells.
 fn is_above(page: &BranchPage, n: usize, separator: &[u8]) -> bool
     requires { ⌜ n ≤ length (branchNode (now page) .rest) ⌝ }
@@ -217,7 +235,7 @@ pub(crate) fn placed(
     requires keep { ⌜ keep ≤ length (branchNode (now front) .rest) ⌝ }
     requires skip { ⌜ skip ≤ length (branchNode (now back) .rest) ⌝ }
     requires few { ⌜ total cellCost (take keep (branchNode (now front) .rest)) + total cellCost (drop skip (branchNode (now back) .rest)) ≤ 619 ⌝ }
-    ensures { λ r. ⌜ Fits (now (separator .entry)) (branch (branchNode (now (front .entry)) .first) (take keep (branchNode (now (front .entry)) .rest) ++ cell (now (separator .entry)) child ∷ drop skip (branchNode (now (back .entry)) .rest))) r ⌝ }
+    ensures { λ r. ⌜ GrowsTo (now (separator .entry)) (branch (branchNode (now (front .entry)) .first) (take keep (branchNode (now (front .entry)) .rest) ++ cell (now (separator .entry)) child ∷ drop skip (branchNode (now (back .entry)) .rest))) r ⌝ }
 {
     if separator.len() < 1 {
         return None;
@@ -233,4 +251,14 @@ pub(crate) fn placed(
     }
     let cell = Short::branch_cell(separator, child);
     Some(with_cell(front, keep, cell.as_slice(), back, skip))
+}
+
+// Whether one of two branches is underfull.
+pub(crate) fn one_is_light(left: &BranchPage, right: &BranchPage) -> bool
+    ensures { λ r. ⌜ r ≡ (light (now (left .entry)) || light (now (right .entry))) ⌝ }
+{
+    if left.cost() < 124 {
+        return true;
+    }
+    right.cost() < 124
 }

@@ -3,6 +3,7 @@ ghost use mathlib.Core.Bool.{true};
 ghost use lib.ListN.{length};
 ghost use Rattle.std.specs.Options.{mapped};
 ghost use Rattle.tree.specs.Search.{picked};
+ghost use Rattle.tree.specs.Trees.{branchCost};
 ghost use Rattle.page.specs.Branches.{childOf, separatorOf};
 ghost use Rattle.page.specs.Kinds.{branchGood};
 ghost use Rattle.page.specs.Words.{word32};
@@ -11,6 +12,7 @@ use crate::branch::BranchPage;
 use crate::cell::BranchCell;
 use crate::cell::BranchKind;
 use crate::draft::cell_at;
+use crate::draft::cost_between;
 use crate::draft::count_of;
 use crate::draft::key_at;
 use crate::draft::leftmost_of;
@@ -79,5 +81,12 @@ impl BranchPage {
         ensures { λ r. ⌜ r ≡ picked (now (key .entry)) (branchNode (now (self .entry)) .rest) ⌝ }
     {
         place_above::<BranchCell>(&self.bytes, key)
+    }
+
+    // The bytes that its cells cost.
+    pub fn cost(&self) -> usize
+        ensures { λ r. ⌜ r ≡ branchCost (branchNode (now (self .entry))) ⌝ }
+    {
+        cost_between::<BranchCell>(&self.bytes, 0, self.len())
     }
 }
