@@ -1,5 +1,5 @@
 -- The lists of cells that edits of branches make, and the branches that they are.
-use Prim.Native.Nat.{ℕ, zero, suc, _+_, _-_, _*_, _<_, _≤_, _^_}
+use Prim.Native.Nat.{ℕ, zero, suc, _+_, _<_, _≤_, _^_}
 use mathlib.Core.Path.{_≡_, refl, sym, ap, _∙_}
 use mathlib.Core.Bool.{true}
 use mathlib.Core.List.{List, [], _∷_, _++_, map}
@@ -10,9 +10,8 @@ use Rattle.std.proofs.shelf.Tests.{and-from, le-leb, eq-eqb}
 use Rattle.cuts.specs.Cuts.{total}
 use Rattle.cuts.specs.Keys.{KeyFits}
 use Rattle.cuts.specs.Nodes.{Cell, Branch, cellCost}
-use Rattle.cuts.proofs.Balance.{total-append, total-parts}
 use Rattle.tree.specs.Trees.{cell, branch}
-use Rattle.tree.specs.Edits.{Grown, one, two, prepend}
+use Rattle.tree.specs.Edits.{one, two, prepend}
 use Rattle.tree.specs.Places.{separatorAt, splice, spliceTwo}
 use Rattle.page.specs.Kinds.{branchBody, branchGood, branchKey, cellOf}
 use Rattle.page.specs.Layout.{cost}

@@ -1,8 +1,8 @@
 -- Edits of branches as the tree's steps.
-use Prim.Native.Nat.{ℕ, zero, suc, _+_, _-_, _<_, _≤_}
-use mathlib.Core.Path.{_≡_, refl, sym, ap, subst, _∙_}
-use mathlib.Core.Bool.{Bool, true, false, _||_}
-use mathlib.Core.List.{List, [], _∷_, _++_, map}
+use Prim.Native.Nat.{ℕ, suc, _+_, _-_, _<_, _≤_}
+use mathlib.Core.Path.{_≡_, sym, ap, subst, _∙_}
+use mathlib.Core.Bool.{true, _||_}
+use mathlib.Core.List.{List, _∷_, _++_, map}
 use native.Mathlib.Numerals.{add-one}
 use native.Mathlib.Omega.{arith}
 use lib.Dec.{ltb}
@@ -13,11 +13,11 @@ use Rattle.std.proofs.shelf.Lists.{take-all}
 use Rattle.std.proofs.shelf.Ways.{tells}
 use Rattle.cuts.specs.Cuts.{total}
 use Rattle.cuts.specs.Nodes.{Cell, Branch, cellCost}
-use Rattle.tree.specs.Trees.{cell, branch, branchCost}
+use Rattle.tree.specs.Trees.{cell, branch}
 use Rattle.tree.specs.Edits as tree
-use Rattle.tree.specs.Places.{separatorAt, splice, spliceTwo}
+use Rattle.tree.specs.Places.{separatorAt, splice}
 use Rattle.page.specs.Branches.{BranchBytes}
-use Rattle.page.specs.Growths.{GrowsTo, Sorted, spliced, splicedTwo, light, merged, InsertsChild, ReplacesChildren, MergesChildren, JoinsBranches}
+use Rattle.page.specs.Growths.{GrowsTo, spliced, splicedTwo, light, merged, InsertsChild, ReplacesChildren, JoinsBranches}
 use Rattle.page.specs.Kinds.{cellOf}
 use Rattle.page.specs.Layout.{cost, cellsOf}
 use Rattle.page.specs.Views.{branchNode}

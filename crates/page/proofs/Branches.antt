@@ -1,7 +1,7 @@
 -- The cells of a branch, and a branch's list as one node or two.
-use Prim.Native.Nat.{ℕ, zero, suc, _+_, _*_, _<_, _≤_}
+use Prim.Native.Nat.{ℕ, suc, _+_, _*_, _<_, _≤_}
 use mathlib.Core.Path.{_≡_, refl, sym, ap, _∙_}
-use mathlib.Core.Bool.{true, false, cond}
+use mathlib.Core.Bool.{true, cond}
 use mathlib.Core.List.{List, [], _∷_, map}
 use native.Mathlib.Numerals.{add-one}
 use native.Mathlib.Omega.{arith}
@@ -15,10 +15,10 @@ use Rattle.std.proofs.shelf.Tests.{and-parts, leb-true, eqb-true, le-leb, lt-le
 use Rattle.cuts.specs.Cuts.{total, middle}
 use Rattle.cuts.specs.Keys.{KeyFits}
 use Rattle.cuts.specs.Laws.{BranchPartsFit}
-use Rattle.cuts.specs.Nodes.{Cell, Branch, cellCost}
+use Rattle.cuts.specs.Nodes.{Branch, cellCost}
 use Rattle.cuts.proofs.Balance.{branch-parts}
-use Rattle.tree.specs.Trees.{branch, branchCost}
-use Rattle.tree.specs.Edits.{Grown, one, two, giveUp, cutBranch, fit}
+use Rattle.tree.specs.Trees.{branch}
+use Rattle.tree.specs.Edits.{one, two, giveUp, cutBranch, fit}
 use Rattle.page.specs.Branches.{CutsBranch}
 use Rattle.page.specs.Growths.{fittedBranch}
 use Rattle.page.specs.Kinds.{branchGood, branchKey, cellOf}

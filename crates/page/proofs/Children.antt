@@ -4,17 +4,15 @@ use mathlib.Core.Path.{_≡_, refl, sym, ap, _∙_}
 use mathlib.Core.Bool.{Bool, true, false, not, cond}
 use mathlib.Core.List.{List, [], _∷_, map}
 use native.Mathlib.Omega.{arith}
-use lib.Dec.{leb, ltb, eqb}
+use lib.Dec.{eqb}
 use lib.ListN.{length, getD}
 use Rattle.std.specs.Options.{isSome}
-use Rattle.std.specs.declared.option.Option.{Option}
 use Rattle.std.specs.declared.option.Option.the-variants.{Some, None}
 use Rattle.std.proofs.shelf.Lists.{length-map}
 use Rattle.std.proofs.shelf.Tests.{false≢true, and-parts, leb-true, le-leb, lt-ltb}
 use Rattle.std.proofs.shelf.Equals.{sameBytes-decides}
 use Rattle.checksum.specs.Sealed.{isSealed}
 use Rattle.cuts.specs.Keys.{key<}
-use Rattle.cuts.specs.Nodes.{Cell, Branch}
 use Rattle.tree.specs.Trees.{branch}
 use Rattle.tree.specs.Places.{separatorAt}
 use Rattle.tree.specs.Search.{picked, childAt}

@@ -1,14 +1,15 @@
 -- What edits of pages leave, as nodes without pages.
-use Prim.Native.Nat.{ℕ, _<_, _≤_}
+use Prim.Native.Nat.{ℕ, _+_, _<_, _≤_}
 use mathlib.Core.Path.{_≡_}
 use mathlib.Core.Bool.{Bool, true, _||_}
-use mathlib.Core.List.{List, [], _∷_}
+use mathlib.Core.List.{List, [], _∷_, _++_}
 use lib.Dec.{ltb}
-use lib.ListN.{length}
+use lib.ListN.{length, take, drop}
 use Rattle.std.specs.declared.option.Option.{Option}
 use Rattle.std.specs.declared.option.Option.the-variants.{Some, None}
 use Rattle.cuts.specs.Keys.{KeyFits}
-use Rattle.cuts.specs.Nodes.{Pair, Branch}
+use Rattle.cuts.specs.Cuts.{total}
+use Rattle.cuts.specs.Nodes.{Pair, Cell, Branch, cellCost}
 use Rattle.cuts.specs.Sizes.{quarter}
 use Rattle.tree.specs.Maps.{insert, delete}
 use Rattle.tree.specs.Trees.{cell, branch, leafCost, branchCost}
@@ -42,6 +43,13 @@ PutsPair p k v (Some g) = KeyFits k × (length v ≤ 128) × (leafGrown g ≡ fi
 -- a branch, cut if it is too full
 abbrev pub fittedBranch : Branch ℕ → tree.Grown (Branch ℕ)
 fittedBranch b = tree.fit branchCost tree.cutBranch b
+
+-- the first k cells of one branch, a cell, and the cells of a branch from m on; and what those of the pages cost
+abbrev pub around : BranchPage → ℕ → Cell ℕ → BranchPage → ℕ → Branch ℕ
+around p k c q m = branch (branchNode p .first) (take k (branchNode p .rest) ++ c ∷ drop m (branchNode q .rest))
+
+abbrev pub costAround : BranchPage → ℕ → BranchPage → ℕ → ℕ
+costAround p k q m = total cellCost (take k (branchNode p .rest)) + total cellCost (drop m (branchNode q .rest))
 
 -- g in place of child i of a branch, and in place of that child and the next
 abbrev pub spliced : BranchPage → ℕ → tree.Grown ℕ → Branch ℕ

@@ -30,7 +30,13 @@ impl BranchPage {
 
     // The branch with two pages and the separator between them for child i: one page, or two; none, if it has no
     // such child, or that cannot be a separator there.
-    pub fn insert(&self, i: usize, left: u32, separator: &[u8], right: u32) -> Option<Grown<BranchPage>>
+    pub fn insert(
+        &self,
+        i: usize,
+        left: u32,
+        separator: &[u8],
+        right: u32,
+    ) -> Option<Grown<BranchPage>>
         ensures { λ r. ⌜ InsertsChild (now (self .entry)) i left (now (separator .entry)) right r ⌝ }
     {
         match self.with_child(i, left) {
@@ -54,7 +60,13 @@ impl BranchPage {
 
     // The branch with two pages and another separator between them for child i and the next: one page, or two;
     // none, if there is no next, or that cannot be a separator there.
-    pub fn replace(&self, i: usize, left: u32, separator: &[u8], right: u32) -> Option<Grown<BranchPage>>
+    pub fn replace(
+        &self,
+        i: usize,
+        left: u32,
+        separator: &[u8],
+        right: u32,
+    ) -> Option<Grown<BranchPage>>
         ensures { λ r. ⌜ ReplacesChildren (now (self .entry)) i left (now (separator .entry)) right r ⌝ }
     {
         if i >= self.len() {
@@ -90,6 +102,13 @@ impl BranchPage {
         if !one_is_light(self, right) {
             return None;
         }
-        placed(self, self.len(), separator, leftmost_of(&right.bytes), right, 0)
+        placed(
+            self,
+            self.len(),
+            separator,
+            leftmost_of(&right.bytes),
+            right,
+            0,
+        )
     }
 }

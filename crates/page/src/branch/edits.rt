@@ -9,7 +9,7 @@ ghost use Rattle.cuts.specs.Nodes.{cellCost};
 ghost use Rattle.tree.specs.Places.{separatorAt};
 ghost use Rattle.tree.specs.Trees.{branch, cell};
 ghost use Rattle.page.specs.Branches.{CutsBranch, ascending, endsBelow, startsAbove};
-ghost use Rattle.page.specs.Growths.{branchGrown, fittedBranch, light, GrowsTo};
+ghost use Rattle.page.specs.Growths.{around, costAround, branchGrown, fittedBranch, light, GrowsTo};
 ghost use Rattle.page.specs.Kinds.{branchGood, branchKey, cellOf};
 ghost use Rattle.page.specs.Layout.{Laid, cost, cellsOf};
 ghost use Rattle.page.specs.Reading.{every, rising};
@@ -138,7 +138,7 @@ fn set_cell<'a>(page: &'a BranchPage, i: usize, cell: &'a [u8]) -> BranchPage
     requires within { ⌜ i < length (branchNode (now page) .rest) ⌝ }
     requires good { ⌜ branchGood (now cell) ≡ true ⌝ }
     requires same { ⌜ branchKey (now cell) ≡ separatorAt i (branchNode (now page) .rest) ⌝ }
-    ensures { λ r. ⌜ branchNode r ≡ branch (branchNode (now (page .entry)) .first) (take i (branchNode (now (page .entry)) .rest) ++ cellOf (now (cell .entry)) ∷ drop (i + 1) (branchNode (now (page .entry)) .rest)) ⌝ }
+    ensures { λ r. ⌜ branchNode r ≡ around (now (page .entry)) i (cellOf (now (cell .entry))) (now (page .entry)) (i + 1) ⌝ }
 {
     let list = Splice {
         front: &page.bytes,
@@ -153,7 +153,7 @@ fn set_cell<'a>(page: &'a BranchPage, i: usize, cell: &'a [u8]) -> BranchPage
 // Another child for one of the cells.
 pub(crate) fn with_later(page: &BranchPage, i: usize, child: u32) -> BranchPage
     requires { ⌜ i < length (branchNode (now page) .rest) ⌝ }
-    ensures { λ r. ⌜ branchNode r ≡ branch (branchNode (now (page .entry)) .first) (take i (branchNode (now (page .entry)) .rest) ++ cell (separatorAt i (branchNode (now (page .entry)) .rest)) child ∷ drop (i + 1) (branchNode (now (page .entry)) .rest)) ⌝ }
+    ensures { λ r. ⌜ branchNode r ≡ around (now (page .entry)) i (cell (separatorAt i (branchNode (now (page .entry)) .rest)) child) (now (page .entry)) (i + 1) ⌝ }
 {
     let cell = Short::branch_cell(key_at::<BranchCell>(&page.bytes, i), child);
     set_cell(page, i, cell.as_slice())
@@ -170,9 +170,9 @@ fn with_cell<'a>(
     requires keep { ⌜ keep ≤ length (branchNode (now front) .rest) ⌝ }
     requires skip { ⌜ skip ≤ length (branchNode (now back) .rest) ⌝ }
     requires good { ⌜ branchGood (now cell) ≡ true ⌝ }
-    requires rises { ⌜ ascending (take keep (branchNode (now front) .rest) ++ cellOf (now cell) ∷ drop skip (branchNode (now back) .rest)) ≡ true ⌝ }
-    requires few { ⌜ total cellCost (take keep (branchNode (now front) .rest)) + total cellCost (drop skip (branchNode (now back) .rest)) ≤ 619 ⌝ }
-    ensures { λ r. ⌜ branchGrown r ≡ fittedBranch (branch (branchNode (now (front .entry)) .first) (take keep (branchNode (now (front .entry)) .rest) ++ cellOf (now (cell .entry)) ∷ drop skip (branchNode (now (back .entry)) .rest))) ⌝ }
+    requires rises { ⌜ ascending (around (now front) keep (cellOf (now cell)) (now back) skip .rest) ≡ true ⌝ }
+    requires few { ⌜ costAround (now front) keep (now back) skip ≤ 619 ⌝ }
+    ensures { λ r. ⌜ branchGrown r ≡ fittedBranch (around (now (front .entry)) keep (cellOf (now (cell .entry))) (now (back .entry)) skip) ⌝ }
 {
     let list = Splice {
         front: &front.bytes,
@@ -234,8 +234,8 @@ pub(crate) fn placed(
 ) -> Option<Grown<BranchPage>>
     requires keep { ⌜ keep ≤ length (branchNode (now front) .rest) ⌝ }
     requires skip { ⌜ skip ≤ length (branchNode (now back) .rest) ⌝ }
-    requires few { ⌜ total cellCost (take keep (branchNode (now front) .rest)) + total cellCost (drop skip (branchNode (now back) .rest)) ≤ 619 ⌝ }
-    ensures { λ r. ⌜ GrowsTo (now (separator .entry)) (branch (branchNode (now (front .entry)) .first) (take keep (branchNode (now (front .entry)) .rest) ++ cell (now (separator .entry)) child ∷ drop skip (branchNode (now (back .entry)) .rest))) r ⌝ }
+    requires few { ⌜ costAround (now front) keep (now back) skip ≤ 619 ⌝ }
+    ensures { λ r. ⌜ GrowsTo (now (separator .entry)) (around (now (front .entry)) keep (cell (now (separator .entry)) child) (now (back .entry)) skip) r ⌝ }
 {
     if separator.len() < 1 {
         return None;

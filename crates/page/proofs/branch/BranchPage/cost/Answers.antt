@@ -4,10 +4,9 @@ use mathlib.Core.Bool.{true}
 use borrow.Author.Needs.{needs}
 use Rattle.std.proofs.shelf.Lists.{length-map}
 use Rattle.page.specs.Kinds.{branchRules, cellOf}
-use Rattle.page.specs.Layout.{cellsOf}
+use Rattle.page.specs.Layout.{cellsOf, cost}
 use Rattle.page.specs.Reading.{sound}
 use Rattle.page.proofs.Children.{branch-bytes}
-use Rattle.page.specs.Layout.{cost}
 use Rattle.page.proofs.BranchSteps.{cells-cost}
 use Rattle.page.proofs.Pages.{all-is}
 use Rattle.page.proofs.branch.BranchPage.cost.Needs as need

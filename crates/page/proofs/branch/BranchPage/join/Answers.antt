@@ -1,10 +1,8 @@
 use native.Mathlib.Omega.{arith}
-use Prim.Native.Nat.{_≤_}
 use mathlib.Core.Path.{_≡_, sym, ap}
 use mathlib.Core.Bool.{true}
 use mathlib.Core.List.{map}
 use borrow.Author.Needs.{needs}
-use lib.ListN.{length}
 use Rattle.std.proofs.shelf.Lists.{take-all}
 use Rattle.cuts.specs.Cuts.{total}
 use Rattle.cuts.specs.Nodes.{cellCost}

@@ -2,8 +2,7 @@ use native.Mathlib.Omega.{arith}
 use mathlib.Core.Path.{_≡_, _∙_, sym, ap}
 use mathlib.Core.Bool.{true}
 use borrow.Author.Needs.{needs}
-use Rattle.std.proofs.shelf.Lists.{length-map}
-use Rattle.page.specs.Kinds.{branchRules, cellOf}
+use Rattle.page.specs.Kinds.{branchRules}
 use Rattle.page.specs.Layout.{cellsOf}
 use Rattle.page.specs.Reading.{sound}
 use Rattle.page.proofs.Children.{branch-bytes}

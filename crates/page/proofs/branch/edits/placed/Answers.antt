@@ -2,21 +2,18 @@ use native.Mathlib.Omega.{arith}
 use mathlib.Core.Path.{_≡_, _∙_, sym, ap}
 use mathlib.Core.Bool.{true}
 use borrow.Author.Needs.{needs}
-use Rattle.std.proofs.shelf.Lists.{length-map}
-use Rattle.page.specs.Kinds.{branchRules, cellOf}
-use Rattle.page.specs.Layout.{cellsOf}
+use Rattle.page.specs.Kinds.{branchRules, cellOf, branchBody, branchGood}
+use Rattle.page.specs.Layout.{cellsOf, leftOf}
 use Rattle.page.specs.Reading.{sound}
 use Rattle.page.proofs.Children.{branch-bytes}
 use Prim.Native.Nat.{_<_, _^_}
 use mathlib.Core.List.{_∷_, _++_, map}
-use lib.ListN.{length, take, drop}
+use lib.ListN.{take, drop}
 use Rattle.std.proofs.shelf.Tests.{false≢true}
 use Rattle.cuts.specs.Keys.{KeyFits}
 use Rattle.tree.specs.Trees.{cell, branch}
 use Rattle.page.specs.Branches.{ascending}
 use Rattle.page.specs.Growths.{fittedBranch}
-use Rattle.page.specs.Kinds.{branchBody, branchGood}
-use Rattle.page.specs.Layout.{leftOf}
 use Rattle.page.proofs.BranchLists.{body-good, cell-body}
 use Rattle.page.proofs.BranchOrders.{sorted-parts, sorted-from}
 use Rattle.page.proofs.branch.edits.placed.Needs as need

@@ -1,11 +1,10 @@
 use native.Mathlib.Omega.{arith}
-use mathlib.Core.Path.{_≡_, _∙_, refl, ap}
-use mathlib.Core.Bool.{true}
-use mathlib.Core.List.{List, map, _∷_, []}
+use mathlib.Core.Path.{_∙_, refl, ap}
+use mathlib.Core.List.{map, _∷_}
 use Rattle.std.proofs.shelf.Tests.{and-from}
 use Rattle.tree.specs.Trees.{branch}
 use Rattle.page.specs.Kinds.{branchGood, branchKey, cellOf}
-use Rattle.page.specs.Layout.{cost, cellsOf}
+use Rattle.page.specs.Layout.{cost}
 use Rattle.page.specs.Reading.{every, rising}
 use Rattle.page.proofs.Branches.{body-small}
 use Rattle.page.proofs.Pages.{cost-one}

@@ -3,22 +3,17 @@ use mathlib.Core.Path.{_≡_, _∙_, sym, ap}
 use mathlib.Core.Bool.{true}
 use borrow.Author.Needs.{needs}
 use Rattle.std.proofs.shelf.Lists.{length-map}
-use Rattle.page.specs.Kinds.{branchRules, cellOf}
-use Rattle.page.specs.Layout.{cellsOf}
+use Rattle.page.specs.Kinds.{branchRules, cellOf, branchBody, branchGood, branchKey}
+use Rattle.page.specs.Layout.{cellsOf, leftOf}
 use Rattle.page.specs.Reading.{sound}
-use Rattle.page.proofs.Children.{branch-bytes}
+use Rattle.page.proofs.Children.{branch-bytes, separator-at}
 use Prim.Native.Nat.{_+_, _<_, _^_}
-use mathlib.Core.List.{[], _∷_, _++_}
+use mathlib.Core.List.{[], _∷_, _++_, map}
 use lib.ListN.{length, getD, take, drop}
-use mathlib.Core.List.{map}
 use Rattle.cuts.specs.Keys.{KeyFits}
-use Rattle.tree.specs.Places.{separatorAt}
 use Rattle.tree.specs.Trees.{cell, branch}
-use Rattle.page.specs.Kinds.{branchBody, branchGood, branchKey}
-use Rattle.page.specs.Layout.{leftOf}
 use Rattle.page.proofs.BranchLists.{body-good, cell-body}
 use Rattle.page.proofs.Branches.{key-fits}
-use Rattle.page.proofs.Children.{separator-at}
 use Rattle.page.proofs.Tested.{every-at}
 use Rattle.page.proofs.branch.edits.with_later.Needs as need
 
