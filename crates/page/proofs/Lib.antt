@@ -12,6 +12,9 @@ pub mod Sounds
 pub mod Parts
 pub mod Leaves
 pub mod Fits
+pub mod Finds
+pub mod Puts
+pub mod OnePage
 pub mod Branches
 pub mod Children
 pub mod BranchOrders

@@ -6,7 +6,7 @@ use mathlib.Core.Bool.{Bool, true, false, cond, _&&_}
 use mathlib.Core.List.{List, [], _∷_}
 use native.Mathlib.Omega.{arith}
 use lib.ListN.{length, getD}
-use Rattle.std.proofs.shelf.Tests.{and-parts, cases-lt, cases-bool, both-ways, cond-true, cond-false}
+use Rattle.std.proofs.shelf.Tests.{and-parts, cases-lt, cases-bool, both-ways, cond-both}
 use Rattle.cuts.specs.Keys.{key<, Below}
 use Rattle.cuts.proofs.Order.{less-trans}
 use Rattle.page.specs.Places.{upTo}
@@ -59,3 +59,29 @@ module _ (key : List ℕ → List ℕ) where
         (λ lt. less-trans k (key (getD xs m [])) (key (getD xs j [])) b (rises xs m j asc lt n))
         (λ le. let e : j ≡ m = omega arith in ap (λ i. key< k (key (getD xs i []))) e ∙ b)
         (cases-lt m j)
+
+  -- what a place says of the keys around it
+  pub upTo-length : (k : List ℕ) (xs : List (List ℕ)) → upTo key k xs ≤ length xs
+  unfolding upTo
+  upTo-length k [] = omega arith
+  upTo-length k (x ∷ xs) = cond-both (key< k (key x)) 0 (suc (upTo key k xs)) (λ n. n ≤ suc (length xs)) (λ _. omega arith) (λ _. omega (arith, upTo-length k xs))
+
+  pub upTo-front : (k : List ℕ) (xs : List (List ℕ)) (j : ℕ) → j < upTo key k xs → key< k (key (getD xs j [])) ≡ false
+  unfolding upTo
+  upTo-front k [] j h = absurd (omega arith)
+  upTo-front k (x ∷ xs) zero h =
+      ⊎-elim (λ t. absurd (omega (arith, ap (λ b. cond b 0 (suc (upTo key k xs))) t))) (λ f. f) (cases-bool (key< k (key x)))
+  upTo-front k (x ∷ xs) (suc j) h =
+      ⊎-elim
+      (λ t. absurd (omega (arith, ap (λ b. cond b 0 (suc (upTo key k xs))) t)))
+      (λ f. upTo-front k xs j (omega (arith, ap (λ b. cond b 0 (suc (upTo key k xs))) f)))
+      (cases-bool (key< k (key x)))
+
+  pub upTo-at : (k : List ℕ) (xs : List (List ℕ)) → upTo key k xs < length xs → key< k (key (getD xs (upTo key k xs) [])) ≡ true
+  unfolding upTo
+  upTo-at k [] h = absurd (omega arith)
+  upTo-at k (x ∷ xs) h =
+      ⊎-elim
+      (λ t. ap (λ n. key< k (key (getD (x ∷ xs) n []))) (ap (λ b. cond b 0 (suc (upTo key k xs))) t) ∙ t)
+      (λ f. let e = ap (λ b. cond b 0 (suc (upTo key k xs))) f in ap (λ n. key< k (key (getD (x ∷ xs) n []))) e ∙ upTo-at k xs (omega arith))
+      (cases-bool (key< k (key x)))

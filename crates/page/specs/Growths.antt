@@ -17,7 +17,7 @@ use Rattle.tree.specs.Edits as tree
 use Rattle.tree.specs.Places.{splice, spliceTwo}
 use Rattle.page.specs.Branches.{ascending}
 use Rattle.page.specs.Shorts.{held}
-use Rattle.page.specs.Views.{leafPairs, branchNode}
+use Rattle.page.specs.Views.{leafPairs, branchNode, FindsKey}
 use Rattle.page.specs.declared.grown.Grown.{Grown}
 use Rattle.page.specs.declared.grown.Grown.the-variants.{One, Two}
 use Rattle.page.specs.declared.leaf.LeafPage.{LeafPage}
@@ -39,6 +39,11 @@ fitted ps = tree.fit leafCost tree.cutLeaf ps
 abbrev pub PutsPair : LeafPage → List ℕ → List ℕ → Option (Grown LeafPage) → Type 0
 PutsPair p k v None = KeyFits k × (length v ≤ 128) → ⊥
 PutsPair p k v (Some g) = KeyFits k × (length v ≤ 128) × (leafGrown g ≡ fitted (insert k v (leafPairs p)))
+
+-- a remove refuses only a key that is not there
+abbrev pub RemovesPair : LeafPage → List ℕ → Option LeafPage → Type 0
+RemovesPair p k None = FindsKey (leafPairs p) k None
+RemovesPair p k (Some q) = ((i : ℕ) × FindsKey (leafPairs p) k (Some i)) × (leafPairs q ≡ delete k (leafPairs p))
 
 -- a branch, cut if it is too full
 abbrev pub fittedBranch : Branch ℕ → tree.Grown (Branch ℕ)

@@ -8,4 +8,6 @@ pub mod Splices
 pub mod Views
 pub mod Shorts
 pub mod Growths
+pub mod Faults
+pub mod Loads
 pub mod Branches

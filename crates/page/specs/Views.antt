@@ -1,6 +1,8 @@
 -- What pages hold: a leaf its pairs, a branch its children and separators.
-use Prim.Native.Nat.{ℕ}
-use mathlib.Core.List.{List, map}
+use Prim.Native.Nat.{ℕ, _<_}
+use mathlib.Core.List.{List, [], map}
+use lib.ListN.{length, getD}
+use Rattle.std.specs.declared.option.Option.{Option}
 use Rattle.std.specs.declared.option.Option.the-variants.{Some, None}
 use Rattle.std.specs.declared.result.Result.{Result}
 use Rattle.std.specs.declared.result.Result.the-variants.{Ok, Err}
@@ -33,3 +35,15 @@ ReadsLeaf b (Err c) = firstFault leafRules b ≡ Some c
 abbrev pub ReadsBranch : List ℕ → Result BranchPage Cause → Type 0
 ReadsBranch b (Ok p) = (p .bytes ≡ b) × (firstFault branchRules b ≡ None)
 ReadsBranch b (Err c) = firstFault branchRules b ≡ Some c
+
+abbrev pub keyOf : Pair → List ℕ
+keyOf p = p .key
+
+-- the key of the pair at place i; none, past the end
+abbrev pub keyAt : List Pair → ℕ → List ℕ
+keyAt ps i = keyOf (getD ps i (record { key = []; value = [] }))
+
+-- where the pair with this key stands, if there is one
+abbrev pub FindsKey : List Pair → List ℕ → Option ℕ → Type 0
+FindsKey ps k None = (j : ℕ) → j < length ps → keyAt ps j ≡ k → ⊥
+FindsKey ps k (Some i) = (i < length ps) × (keyAt ps i ≡ k)

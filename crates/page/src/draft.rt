@@ -6,12 +6,14 @@ ghost use lib.ListN.{length, getD};
 ghost use Rattle.std.specs.Holes.{between};
 ghost use mathlib.Core.Bool.{true};
 ghost use Rattle.page.specs.Reading.{every};
-ghost use Rattle.page.specs.Layout.{Laid, bodies, cost, cellsOf, leftOf, sumOf, edgeAt};
+ghost use Rattle.checksum.specs.Crc.{crcOf};
+ghost use Rattle.page.specs.Layout.{Laid, Shows, bodies, cost, cellsOf, leftOf, sumOf, edgeAt, laidOut, pageOf};
 use crate::bytes::put;
 use crate::bytes::read16;
 use crate::bytes::read32;
 use crate::bytes::write16;
 use crate::cell::Cell;
+use checksum::seal;
 use device::PAGE_SIZE;
 use device::Page;
 
@@ -107,4 +109,13 @@ pub fn key_at<C: Cell>(page: &Page, i: usize) -> &[u8]
     ensures { λ r. ⌜ now r ≡ rules .key (getD (cellsOf (now (page .entry))) i []) ⌝ }
 {
     C::key_of(cell_at::<C>(page, i))
+}
+
+// Writes the checksum, when all cells are there.
+pub(crate) fn finish<C: Cell>(page: &mut Page)
+    requires { ⌜ Laid (rules .kind) (now page) ⌝ }
+    ensures value { λ _. ⌜ now (page .exit) ≡ pageOf (rules .kind) (leftOf (now (page .entry))) (cellsOf (now (page .entry))) ⌝ }
+    ensures shows { λ _. ⌜ Shows (rules .kind) (now (page .exit)) (leftOf (now (page .entry))) (crcOf (laidOut (rules .kind) (leftOf (now (page .entry))) 0 (cellsOf (now (page .entry))))) (cellsOf (now (page .entry))) ⌝ }
+{
+    seal(page);
 }

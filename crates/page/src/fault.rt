@@ -1,3 +1,9 @@
+ghost use mathlib.Core.Path.{_≡_};
+ghost use Rattle.page.specs.Faults.{fromDevice};
+use device::DeviceFault;
+use device::DeviceFaultDebug;
+use device::DeviceFaultPartialEq;
+
 // What can be wrong with a page, in the order in which it is looked for.
 #[derive(Clone, Copy, PartialEq, Eq, Debug)]
 pub enum Cause {
@@ -17,4 +23,26 @@ pub enum Cause {
     Child,
     // the pairs are not as many as the meta page says; the page named is the root
     PairCount,
+}
+
+// A page with something wrong.
+#[derive(Clone, Copy, PartialEq, Eq, Debug)]
+pub struct Damage {
+    pub page: u32,
+    pub cause: Cause,
+}
+
+// Why a page could not be had: the device refused, or the page is damaged.
+#[derive(Clone, Copy, PartialEq, Eq, Debug)]
+pub enum PageFault {
+    Device(DeviceFault),
+    Damaged(Damage),
+}
+
+pub impl From<DeviceFault> for PageFault as PageFaultFromDevice {
+    ghost converts = { λ f r. r ≡ fromDevice f };
+
+    fn from(fault: DeviceFault) -> PageFault {
+        PageFault::Device(fault)
+    }
 }

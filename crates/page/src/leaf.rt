@@ -4,6 +4,7 @@ ghost use Rattle.page.specs.Kinds.{leafRules};
 ghost use Rattle.page.specs.Reading.{sound};
 use device::Page;
 
+mod calls;
 mod edits;
 mod reads;
 

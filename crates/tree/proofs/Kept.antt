@@ -19,7 +19,7 @@ use Rattle.tree.specs.Maps.{insert, delete}
 use Rattle.tree.specs.Trees.{cell, Tree, cost, underfull}
 use Rattle.tree.specs.Edits.{Grown, one, two, cut, giveUp, fit, merge, join, place, mended, edit, giveWay, rooted}
 use Rattle.tree.specs.Sound.{Bound, none, before, Under, Light, Full, Forked, SoundTree}
-use Rattle.tree.specs.Laws.{EditsKeepTreesSound}
+use Rattle.tree.specs.Laws.{TheEmptyTreeIsSound, EditsKeepTreesSound}
 use Rattle.tree.proofs.Insertion.{all-insert, insert-rising, all-delete, delete-rising}
 use Rattle.tree.proofs.Strict.{Rises, Ranges, Strict, StrictTree, strict-tree, sound-tree}
 use Rattle.tree.proofs.Around.{ranges-split, ranges-merge, lacks, wants, Good, CellsFit, lacking, place-kept, mend-kept}
@@ -209,6 +209,10 @@ rooted-strict zero (one t) h = (h, tt)
 rooted-strict (suc n) (one t) h = give-way-strict n (t .first) (t .rest) (h .0) (h .1 .0) (h .1 .1)
 rooted-strict n (two l s r) h =
     ((omega arith, (((not-under n l (h .5), h .3), (h .0, h .1, (not-under n r (h .6), h .4), tt)), (h .2, tt))), omega arith)
+
+pub the-empty-tree-is-sound : TheEmptyTreeIsSound
+unfolding total
+the-empty-tree-is-sound = ((omega arith, (tt, tt, tt)), tt)
 
 pub edits-keep-trees-sound : EditsKeepTreesSound
 edits-keep-trees-sound b h = (

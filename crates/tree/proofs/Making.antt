@@ -1,10 +1,11 @@
 -- How many nodes an edit makes.
-use Prim.Native.Nat.{ℕ, zero, suc, _+_, _*_, _<_, _≤_}
+use Prim.Native.Nat.{ℕ, zero, suc, _*_, _<_, _≤_}
 use mathlib.Core.Path.{_≡_, refl, sym, ap, subst, _∙_}
 use mathlib.Core.List.{List, [], _∷_, map}
 use mathlib.Core.Bool.{Bool, true, false, cond}
 use native.Mathlib.Omega.{arith}
 use lib.ListN.{length}
+use Rattle.std.specs.shelf.Lists.{All}
 use Rattle.cuts.specs.Keys.{AtMost}
 use Rattle.cuts.specs.Nodes.{Pair, Cell, Branch}
 use Rattle.cuts.specs.Cuts.{total}
@@ -15,8 +16,8 @@ use Rattle.tree.specs.Edits.{Grown, one, two, cutBranch, fit, place, placed, m
 use Rattle.tree.specs.Sound.{Bound, none, Under, Light, Full, Forked}
 use Rattle.tree.specs.Search.{picked, childAt}
 use Rattle.tree.specs.Places.{separatorAt, splice, joinAt, repairAt, mapCell, mapBranch, mapGrown}
-use Rattle.tree.specs.Counts.{sumOver, Marked, old, new, mark, markedStep, madeBelow, madeAtRoot, madeInPlaceOf, made}
-use Rattle.tree.specs.LawsOfSize.{MarkedStepsAreTheEdits, EditsMakeFewNodes}
+use Rattle.tree.specs.Counts.{sumOver, Marked, old, new, mark, markedStep, madeBelow, madeAtRoot, madeInPlaceOf}
+use Rattle.tree.specs.LawsOfSize.{MarkedStepsAreTheEdits, MakesFewNodes, EditsMakeFewNodes}
 use Rattle.tree.proofs.Strict.{Strict, strict-tree}
 use Rattle.tree.proofs.Around.{lacks, wants}
 use Rattle.tree.proofs.ByPlace.{Settled, mend-place, picked-within, at-picked}
@@ -116,18 +117,26 @@ module _ {X : Type 0} (under : X → Bool) (j : X → List ℕ → X → Grown X
 
 -- so an edit makes at most two nodes a level
 made-few : (e : List Pair → List Pair) (k : List ℕ) → Edits e k → (n : ℕ) (lo : List ℕ) (hi : Bound) (t : Tree n)
-    → AtMost lo k → Under k hi → Forked n t → Light n (Strict n) lo hi t
-    → madeBelow e k n t ≤ 2 * n
+    → AtMost lo k → Under k hi → Forked n t → Light n (Strict n) lo hi t → All (λ m. m ≤ 2) (madeBelow e k n t)
 unfolding madeBelow
-made-few e k ed zero lo hi t p q f h = omega arith
+made-few e k ed zero lo hi t p q f h = tt
 made-few e k ed (suc n) lo hi t p q f h =
-    let l = ranges-light n (Strict n) lo hi (t .first) (t .rest) (h .1 .0) in
-    let s = settled e k ed n lo hi t p q h in
-    let r = at-picked (Full n (Strict n)) (λ x. madeBelow e k n x ≤ 2 * n) k
-    (λ lo′ hi′ x p′ q′ z. made-few e k ed n lo′ hi′ x p′ q′ (full-forked n x (under-no n x (z .0))) (z .1))
-    lo hi (t .first) (t .rest) p q (h .1 .0) in
-    let m = two-new (underfull n) (join n) (edit e k n) k t f s (l .1) in
-    omega arith
+    let l = ranges-light n (Strict n) lo hi (t .first) (t .rest) (h .1 .0) in (
+      two-new (underfull n) (join n) (edit e k n) k t f (settled e k ed n lo hi t p q h) (l .1),
+      at-picked (Full n (Strict n)) (λ x. All (λ m. m ≤ 2) (madeBelow e k n x)) k
+          (λ lo′ hi′ x p′ q′ z. made-few e k ed n lo′ hi′ x p′ q′ (full-forked n x (under-no n x (z .0))) (z .1))
+          lo hi (t .first) (t .rest) p q (h .1 .0),
+    )
+
+made-levels : (e : List Pair → List Pair) (k : List ℕ) (n : ℕ) (t : Tree n) → length (madeBelow e k n t) ≡ n
+unfolding madeBelow
+made-levels e k zero t = refl
+made-levels e k (suc n) t = ap suc (made-levels e k n _)
+
+two-each : (ms : List ℕ) → All (λ m. m ≤ 2) ms → total (λ m. m) ms ≤ 2 * length ms
+unfolding total
+two-each [] h = omega arith
+two-each (m ∷ ms) h = let r = two-each ms (h .1) in omega arith
 
 made-at-root : (n : ℕ) (g : Grown (Tree n)) → madeAtRoot n g ≤ 3
 made-at-root zero (one t) = omega arith
@@ -144,9 +153,11 @@ edits-make-few-nodes b h = (
   λ k. few (delete k) k (delete-edits k),
 )
   where
-    few : (e : List Pair → List Pair) (k : List ℕ) → Edits e k → made e k b ≤ 2 * suc (b .height) + 1
+    few : (e : List Pair → List Pair) (k : List ℕ) → Edits e k → MakesFewNodes e k b
     few e k ed =
         let s = strict-tree b h in
         let m = made-few e k ed (b .height) [] none (b .root) (less-nil k) tt (s .1) (s .0) in
+        let t = two-each _ m in
+        let l = made-levels e k (b .height) (b .root) in
         let r = made-at-root (b .height) (edit e k (b .height) (b .root)) in
-        omega arith
+        record { below = m; atRoot = r; inAll = omega arith }

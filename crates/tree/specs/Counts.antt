@@ -44,13 +44,12 @@ markedStep under joins e k b =
 abbrev pub mark : {X : Type 0} → Marked X → ℕ
 mark m = cond (m .isNew) 1 0
 
--- the nodes that an edit makes below the node that it begins at: its new children, and those below the child that
--- the key lies under
-unfoldable pub madeBelow : (List Pair → List Pair) → List ℕ → (n : ℕ) → Tree n → ℕ
-madeBelow e k zero t = 0
+-- the nodes that an edit makes below the node that it begins at, level by level: its new children, then those below
+-- the child that the key lies under
+unfoldable pub madeBelow : (List Pair → List Pair) → List ℕ → (n : ℕ) → Tree n → List ℕ
+madeBelow e k zero t = []
 madeBelow e k (suc n) t =
-    sumOver mark (markedStep (underfull n) (join n) (edit e k n) k t)
-    + madeBelow e k n (childAt (picked k (t .rest)) (t .first) (t .rest))
+    sumOver mark (markedStep (underfull n) (join n) (edit e k n) k t) ∷ madeBelow e k n (childAt (picked k (t .rest)) (t .first) (t .rest))
 
 -- the nodes that take the root's place: two with a new root above them, one, or none if it gives way to its child
 abbrev pub madeInPlaceOf : {X : Type 0} → List (Cell X) → ℕ
@@ -63,7 +62,7 @@ madeAtRoot (suc n) (one t) = madeInPlaceOf (t .rest)
 madeAtRoot n (two l s r) = 3
 
 abbrev pub made : (List Pair → List Pair) → List ℕ → BTree → ℕ
-made e k b = madeAtRoot (b .height) (edit e k (b .height) (b .root)) + madeBelow e k (b .height) (b .root)
+made e k b = madeAtRoot (b .height) (edit e k (b .height) (b .root)) + total (λ m. m) (madeBelow e k (b .height) (b .root))
 
 -- branches with three children or more, and a root with two or more
 abbrev pub children : {X : Type 0} → Branch X → ℕ

@@ -10,7 +10,7 @@ use Rattle.std.specs.declared.option.Option.the-variants.{Some, None}
 use Rattle.cuts.specs.Keys.{Below, AtMost, KeyFits}
 use Rattle.cuts.specs.Nodes.{Pair, Branch}
 use Rattle.tree.specs.Maps.{insert, delete, lookup, firstAbove, Rising}
-use Rattle.tree.specs.Trees.{Tree, BTree, pairsOf, branchCost}
+use Rattle.tree.specs.Trees.{Tree, BTree, empty, pairsOf, branchCost}
 use Rattle.tree.specs.Edits.{Grown, cutBranch, fit, mergeBranches, placed, mended, edit, put, remove}
 use Rattle.tree.specs.Sound.{Bound, Under, Light, Sound, Forked, SoundTree}
 use Rattle.tree.specs.Search.{picked, childAt, get, next}
@@ -34,7 +34,10 @@ abbrev pub PutsInsertAndRemovesDelete : Type 0
 PutsInsertAndRemovesDelete = (b : BTree) → SoundTree b → (k v : List ℕ)
     → (pairsOf (put b k v) ≡ insert k v (pairsOf b)) × (pairsOf (remove b k) ≡ delete k (pairsOf b))
 
--- and it stays sound
+-- the tree with which a store begins is sound, and a sound tree stays so
+abbrev pub TheEmptyTreeIsSound : Type 0
+TheEmptyTreeIsSound = SoundTree empty
+
 abbrev pub EditsKeepTreesSound : Type 0
 EditsKeepTreesSound = (b : BTree) → SoundTree b
     → ((k v : List ℕ) → KeyFits k → length v ≤ 128 → SoundTree (put b k v)) × ((k : List ℕ) → SoundTree (remove b k))

@@ -1,6 +1,6 @@
 -- Trees as values, without pages.
 use Prim.Native.Nat.{ℕ, zero, suc}
-use mathlib.Core.List.{List, _++_}
+use mathlib.Core.List.{List, [], _++_}
 use mathlib.Core.Bool.{Bool}
 use lib.Dec.{ltb}
 use Rattle.std.specs.shelf.Lists.{joined}
@@ -23,6 +23,9 @@ Tree (suc n) = Branch (Tree n)
 pub record BTree : Type 0 where
   pub height : ℕ
   pub root : Tree height
+
+abbrev pub empty : BTree
+empty = record { height = zero; root = [] }
 
 abbrev pub levels : BTree → ℕ
 levels b = suc (b .height)

@@ -1,6 +1,6 @@
 // The laws of trees. These functions do nothing: each carries the law in its contract.
 ghost use Rattle.tree.specs.Laws.{RisingPairsAreAMap, TreesAreMaps, PutsInsertAndRemovesDelete};
-ghost use Rattle.tree.specs.Laws.{EditsKeepTreesSound, SearchFindsThePair, EditsChangeOneKey};
+ghost use Rattle.tree.specs.Laws.{TheEmptyTreeIsSound, EditsKeepTreesSound, SearchFindsThePair, EditsChangeOneKey};
 ghost use Rattle.tree.specs.Laws.{FirstAboveIsTheNext, AfterFindsTheNextPair, EditsGoByPlace};
 ghost use Rattle.tree.specs.Laws.{StepsCommuteWithReading};
 ghost use Rattle.tree.specs.LawsOfSize.{MarkedStepsAreTheEdits, EditsMakeFewNodes, EditsAddFewNodes, BranchesAreWide};
@@ -20,6 +20,12 @@ pub fn trees_are_maps() -> u8
 
 pub fn puts_insert_and_removes_delete() -> u8
     ensures { λ _. ⌜ PutsInsertAndRemovesDelete ⌝ }
+{
+    0
+}
+
+pub fn the_empty_tree_is_sound() -> u8
+    ensures { λ _. ⌜ TheEmptyTreeIsSound ⌝ }
 {
     0
 }

@@ -1,35 +1,41 @@
 ghost use mathlib.Core.Path.{_≡_};
 ghost use mathlib.Core.Bool.{true};
-ghost use mathlib.Core.List.{[], map};
-ghost use Prim.Native.Nat.{_-_, _<_, _≤_};
-ghost use lib.ListN.{length, getD};
+ghost use mathlib.Core.List.{[], _∷_, _++_, map};
+ghost use Prim.Native.Nat.{_+_, _-_, _<_, _≤_};
+ghost use lib.ListN.{length, getD, take, drop};
 ghost use Rattle.std.specs.Holes.{between};
 ghost use Rattle.cuts.specs.Cuts.{fair};
 ghost use Rattle.cuts.specs.Keys.{separator};
 ghost use Rattle.cuts.specs.Nodes.{pairCost};
+ghost use Rattle.tree.specs.Maps.{Rising};
 ghost use Rattle.page.specs.Growths.{leafGrown, fitted};
-ghost use Rattle.page.specs.Kinds.{leafGood, leafKey, pairOf};
+ghost use Rattle.page.specs.Kinds.{leafGood, leafKey, leafRules, pairOf};
 ghost use Rattle.page.specs.Layout.{cost};
-ghost use Rattle.page.specs.Reading.{every, rising};
+ghost use Rattle.page.specs.Reading.{every, rising, sound};
 ghost use Rattle.page.specs.Shorts.{held};
 ghost use Rattle.page.specs.Splices.{cellsIn, Spliced, CutsLeaf};
-ghost use Rattle.page.specs.Views.{leafPairs};
+ghost use Rattle.page.specs.Views.{leafPairs, pairsIn};
 use crate::cell::Cell;
 use crate::cell::LeafCell;
 use crate::cell::LeafKind;
+use crate::draft::finish;
+use crate::draft::start;
 use crate::edit::body;
 use crate::edit::cost;
 use crate::edit::leaf_cut;
 use crate::edit::len;
 use crate::edit::part;
 use crate::grown::Grown;
+use crate::known::known;
 use crate::leaf::LeafPage;
 use crate::short::Short;
 use crate::splice::Splice;
 use cuts::separator_len;
+use device::PAGE_SIZE;
+use device::Page;
 
 // The leaf of the cells from one place up to another.
-fn leaf_part(list: &Splice, from: usize, to: usize) -> LeafPage
+pub(crate) fn leaf_part(list: &Splice, from: usize, to: usize) -> LeafPage
     requires spliced { ⌜ Spliced 1 (now list) ⌝ }
     requires goods { ⌜ every leafGood (cellsIn (now list)) ≡ true ⌝ }
     requires rises { ⌜ rising leafKey (cellsIn (now list)) ≡ true ⌝ }
@@ -71,7 +77,7 @@ fn cut_separator(list: &Splice, at: usize) -> Short
 }
 
 // The cells as one leaf, or as two where they are too many for one.
-fn fit(list: &Splice) -> Grown<LeafPage>
+pub(crate) fn fit(list: &Splice) -> Grown<LeafPage>
     requires spliced { ⌜ Spliced 1 (now list) ⌝ }
     requires goods { ⌜ every leafGood (cellsIn (now list)) ≡ true ⌝ }
     requires rises { ⌜ rising leafKey (cellsIn (now list)) ≡ true ⌝ }
@@ -88,4 +94,59 @@ fn fit(list: &Splice) -> Grown<LeafPage>
         cut_separator(list, at),
         leaf_part(list, at, n),
     )
+}
+
+// The first cells of a leaf, a new one, and the last cells.
+pub(crate) fn with_cell<'a>(
+    page: &'a Page,
+    keep: usize,
+    cell: &'a [u8],
+    skip: usize,
+) -> Grown<LeafPage>
+    requires sound { ⌜ sound leafRules (now page) ≡ true ⌝ }
+    requires keep { ⌜ keep ≤ skip ⌝ }
+    requires skip { ⌜ skip ≤ length (pairsIn (now page)) ⌝ }
+    requires good { ⌜ leafGood (now cell) ≡ true ⌝ }
+    requires rises { ⌜ Rising (take keep (pairsIn (now page)) ++ (pairOf (now cell) ∷ drop skip (pairsIn (now page)))) ⌝ }
+    ensures { λ r. ⌜ leafGrown r ≡ fitted (take keep (pairsIn (now (page .entry))) ++ (pairOf (now (cell .entry)) ∷ drop skip (pairsIn (now (page .entry))))) ⌝ }
+{
+    known::<LeafCell>(page);
+    fit(
+        &Splice {
+            front: page,
+            keep,
+            middle: Some(cell),
+            back: page,
+            skip,
+        },
+    )
+}
+
+// All cells of a leaf but one.
+pub(crate) fn without(page: &Page, i: usize) -> LeafPage
+    requires sound { ⌜ sound leafRules (now page) ≡ true ⌝ }
+    requires within { ⌜ i < length (pairsIn (now page)) ⌝ }
+    requires rises { ⌜ Rising (take i (pairsIn (now page)) ++ drop (i + 1) (pairsIn (now page))) ⌝ }
+    ensures { λ r. ⌜ leafPairs r ≡ take i (pairsIn (now (page .entry))) ++ drop (i + 1) (pairsIn (now (page .entry))) ⌝ }
+{
+    known::<LeafCell>(page);
+    let list = Splice {
+        front: page,
+        keep: i,
+        middle: None,
+        back: page,
+        skip: i + 1,
+    };
+    let n = len::<LeafCell>(&list);
+    leaf_part(&list, 0, n)
+}
+
+// The leaf of no pairs.
+pub(crate) fn no_pairs() -> LeafPage
+    ensures { λ r. ⌜ leafPairs r ≡ [] ⌝ }
+{
+    let mut page = [0; PAGE_SIZE];
+    start::<LeafCell>(&mut page, 0);
+    finish::<LeafCell>(&mut page);
+    LeafPage { bytes: page }
 }

@@ -1,0 +1,4 @@
+pub mod Held
+pub mod Cached
+pub mod Calls
+pub mod Inner
