@@ -16,3 +16,8 @@ pub mod Finds
 pub mod Puts
 pub mod OnePage
 pub mod ExactlyOne
+pub mod Branches
+pub mod Children
+pub mod BranchOrders
+pub mod BranchLists
+pub mod BranchSteps

@@ -11,3 +11,4 @@ pub mod Growths
 pub mod Faults
 pub mod Loads
 pub mod Laws
+pub mod Branches

@@ -4,6 +4,8 @@ ghost use Rattle.page.specs.Kinds.{branchRules};
 ghost use Rattle.page.specs.Reading.{sound};
 use device::Page;
 
+mod calls;
+mod edits;
 mod loads;
 mod reads;
 
