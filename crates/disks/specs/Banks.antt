@@ -1,4 +1,4 @@
--- What each call of a simulated device answers and does, settled by what the device held before it. In each
+-- What each call of a simulated device answers and does, by what the device held before it. In each
 -- record, b is the bank before the call and c the bank after it.
 use Prim.Native.Nat.{ℕ}
 use mathlib.Core.Path.{_≡_}

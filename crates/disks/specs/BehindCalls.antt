@@ -1,4 +1,4 @@
--- The medium that a write-behind device is, and what each of its calls does, settled by what it held before:
+-- The medium that a write-behind device is, and what each of its calls does, by what it held before:
 -- d is the device before the call, and e the device after it.
 use Prim.Native.Nat.{ℕ}
 use mathlib.Core.Path.{_≡_}
