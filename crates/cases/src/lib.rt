@@ -1,6 +1,8 @@
 // Tests of the libraries, in a crate of their own: a crate with tests is proved twice.
 
 #[cfg(test)]
+mod branches;
+#[cfg(test)]
 mod caches;
 #[cfg(test)]
 mod checksums;
