@@ -1,7 +1,7 @@
 -- The cells of two leaves, one after the other.
-use Prim.Native.Nat.{ℕ, zero, suc, _+_, _-_, _<_, _≤_}
-use mathlib.Core.Path.{_≡_, refl, sym, ap, subst, _∙_}
-use mathlib.Core.Bool.{Bool, true, false, _&&_}
+use Prim.Native.Nat.{ℕ, _-_, _<_}
+use mathlib.Core.Path.{_≡_, sym, ap, subst, _∙_}
+use mathlib.Core.Bool.{true, _&&_}
 use mathlib.Core.List.{List, [], _∷_, _++_, map, map-append}
 use native.Mathlib.Omega.{arith}
 use lib.ListN.{length, getD, take}
@@ -11,12 +11,10 @@ use Rattle.cuts.specs.Keys.{key<}
 use Rattle.tree.specs.Maps.{Rising}
 use Rattle.page.specs.Kinds.{leafKey, pairOf}
 use Rattle.page.specs.Reading.{rising}
+use Rattle.page.proofs.BranchOrders.{and-true}
 use Rattle.page.proofs.Puts.{rising-pairs, rising-back}
 
-and-true : (a b : Bool) → b ≡ true → (a && b) ≡ a
-and-true true b h = h
-and-true false b h = refl
-
+-- the keys of both rise if those of each do, and the last of the first is below the first of the second
 across : (x : List ℕ) (xs : List (List ℕ)) (y : List ℕ) (ys : List (List ℕ)) → rising leafKey (x ∷ xs) ≡ true → rising leafKey (y ∷ ys) ≡ true
     → rising leafKey (x ∷ (xs ++ (y ∷ ys))) ≡ key< (leafKey (getD (x ∷ xs) (length xs) [])) (leafKey y)
 unfolding rising

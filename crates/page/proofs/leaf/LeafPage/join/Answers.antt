@@ -2,7 +2,6 @@ use native.Mathlib.Omega.{arith}
 use mathlib.Core.Path.{_∙_, sym}
 use Rattle.std.proofs.shelf.Tests.{false≢true}
 use Rattle.tree.specs.Trees.{leafCost}
-use Rattle.page.specs.Kinds.{leafGood}
 use Rattle.page.specs.Layout.{cellsOf}
 use Rattle.page.specs.Views.{pairsIn}
 use Rattle.page.proofs.BranchSteps.{light-few}

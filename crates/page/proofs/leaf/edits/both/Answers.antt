@@ -1,6 +1,6 @@
 use native.Mathlib.Omega.{arith}
-use mathlib.Core.Path.{_∙_, refl, ap}
-use mathlib.Core.List.{_++_, map, map-append}
+use mathlib.Core.Path.{_∙_, ap}
+use mathlib.Core.List.{map, map-append}
 use Rattle.page.specs.Growths.{fitted}
 use Rattle.page.specs.Kinds.{leafGood, leafKey, pairOf}
 use Rattle.page.specs.Layout.{cost, cellsOf}

@@ -1,7 +1,5 @@
 use native.Mathlib.Omega.{arith}
-use mathlib.Core.Path.{_∙_, sym, ap}
-use Rattle.cuts.specs.Keys.{key<}
-use Rattle.page.specs.Kinds.{leafKey}
+use mathlib.Core.Path.{_∙_, sym}
 use Rattle.page.specs.Layout.{cellsOf}
 use Rattle.page.proofs.LeafJoins.{first-empty, second-empty, both-rise}
 use Rattle.page.proofs.Orders.{less-at}
