@@ -22,7 +22,7 @@ rising-ascending [] = refl
 rising-ascending (x ∷ []) = refl
 rising-ascending (x ∷ y ∷ xs) = ap (λ b. key< (branchKey x) (branchKey y) && b) (rising-ascending (y ∷ xs))
 
-and-true : (a b : Bool) → b ≡ true → (a && b) ≡ a
+pub and-true : (a b : Bool) → b ≡ true → (a && b) ≡ a
 and-true true b h = h
 and-true false b h = refl
 

@@ -7,7 +7,7 @@ use mathlib.Core.List.{List, [], _∷_, _++_, map}
 use native.Mathlib.Omega.{arith}
 use lib.ListN.{length, getD, take, drop}
 use Rattle.std.proofs.shelf.Lists.{length-map}
-use Rattle.std.proofs.shelf.Tests.{cases-lt, both-ways}
+use Rattle.std.proofs.shelf.Tests.{cases-lt, both-ways, lt-ltb}
 use Rattle.cuts.specs.Keys.{key<}
 use Rattle.cuts.specs.Nodes.{Pair}
 use Rattle.cuts.proofs.Order.{less-self}
@@ -15,7 +15,7 @@ use Rattle.std.specs.declared.option.Option.the-variants.{Some, None}
 use Rattle.page.specs.Kinds.{leafKey, pairOf}
 use Rattle.page.specs.Places.{upTo}
 use Rattle.page.specs.Reading.{rising}
-use Rattle.page.specs.Views.{keyOf, keyAt, FindsKey}
+use Rattle.page.specs.Views.{keyOf, keyAt, valueAt, keyOfPlace, valueOfPlace, FindsKey}
 use Rattle.page.proofs.Places.{rises, back-above, upTo-length, upTo-front, upTo-at}
 
 pub upTo-pairs : (k : List ℕ) (xs : List (List ℕ)) → upTo keyOf k (map pairOf xs) ≡ upTo leafKey k xs
@@ -27,6 +27,20 @@ pub key-at : (xs : List (List ℕ)) (i : ℕ) → i < length xs → keyAt (map p
 key-at [] i h = absurd (omega arith)
 key-at (x ∷ xs) zero h = refl
 key-at (x ∷ xs) (suc i) h = key-at xs i (omega arith)
+
+value-at : (xs : List (List ℕ)) (i : ℕ) → i < length xs → valueAt (map pairOf xs) i ≡ drop (2 + getD (getD xs i []) 0 0) (getD xs i [])
+value-at [] i h = absurd (omega arith)
+value-at (x ∷ xs) zero h = refl
+value-at (x ∷ xs) (suc i) h = value-at xs i (omega arith)
+
+module _ (xs : List (List ℕ)) (i : ℕ) (s : List ℕ) (h : i < length (map pairOf xs)) where
+  pub key-some : s ≡ leafKey (getD xs i []) → Some s ≡ keyOfPlace i (map pairOf xs)
+  key-some e =
+      ap Some (e ∙ sym (key-at xs i (omega (arith, length-map xs pairOf)))) ∙ sym (ap (λ t. cond t (Some (keyAt (map pairOf xs) i)) None) (lt-ltb _ _ h))
+
+  pub value-some : s ≡ drop (2 + getD (getD xs i []) 0 0) (getD xs i []) → Some s ≡ valueOfPlace i (map pairOf xs)
+  value-some e =
+      ap Some (e ∙ sym (value-at xs i (omega (arith, length-map xs pairOf)))) ∙ sym (ap (λ t. cond t (Some (valueAt (map pairOf xs) i)) None) (lt-ltb _ _ h))
 
 module _ (k : List ℕ) (xs : List (List ℕ)) (asc : rising leafKey xs ≡ true) where
   pub found : (a : ℕ) → a ≡ upTo leafKey k xs → (a ≡ 0 → ⊥) → leafKey (getD xs (a - 1) []) ≡ k → FindsKey (map pairOf xs) k (Some (a - 1))

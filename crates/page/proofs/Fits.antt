@@ -30,7 +30,7 @@ whole : {X : Type 0} (n : ℕ) (ps : List X) → length ps ≤ n → between 0 n
 whole n ps h = between-to-end ps 0 n h
 
 module _ (xs : List (List ℕ)) (g : every leafGood xs ≡ true) where
-  pairs-cost : leafCost (map pairOf xs) ≡ cost xs
+  pub pairs-cost : leafCost (map pairOf xs) ≡ cost xs
   pairs-cost = total-pairs xs g ∙ sym (cost-total xs)
 
   pub fits-one : (n : ℕ) (p : List Pair) → cost xs ≤ 496 → n ≡ length xs → p ≡ between 0 n (map pairOf xs) → one p ≡ fitted (map pairOf xs)

@@ -21,3 +21,4 @@ pub mod Children
 pub mod BranchOrders
 pub mod BranchLists
 pub mod BranchSteps
+pub mod LeafJoins

@@ -11,7 +11,7 @@ use Rattle.cuts.specs.Keys.{KeyFits}
 use Rattle.cuts.specs.Cuts.{total}
 use Rattle.cuts.specs.Nodes.{Pair, Cell, Branch, cellCost}
 use Rattle.cuts.specs.Sizes.{quarter}
-use Rattle.tree.specs.Maps.{insert, delete}
+use Rattle.tree.specs.Maps.{Rising, insert, delete}
 use Rattle.tree.specs.Trees.{cell, branch, leafCost, branchCost}
 use Rattle.tree.specs.Edits as tree
 use Rattle.tree.specs.Places.{splice, spliceTwo}
@@ -110,3 +110,12 @@ abbrev pub JoinsBranches : BranchPage → List ℕ → BranchPage → Option (Gr
 JoinsBranches p s q None = ((light p || light q) ≡ true) × Sorted s (merged p s q) → ⊥
 JoinsBranches p s q (Some g) =
     ((light p || light q) ≡ true) × Sorted s (merged p s q) × (branchGrown g ≡ fittedBranch (merged p s q))
+
+-- a leaf that is underfull, as one of two that are joined has to be
+abbrev pub leafLight : LeafPage → Bool
+leafLight p = ltb (leafCost (leafPairs p)) quarter
+
+abbrev pub JoinsLeaves : LeafPage → LeafPage → Option (Grown LeafPage) → Type 0
+JoinsLeaves p q None = ((leafLight p || leafLight q) ≡ true) × Rising (leafPairs p ++ leafPairs q) → ⊥
+JoinsLeaves p q (Some g) =
+    ((leafLight p || leafLight q) ≡ true) × Rising (leafPairs p ++ leafPairs q) × (leafGrown g ≡ fitted (leafPairs p ++ leafPairs q))

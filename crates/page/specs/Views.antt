@@ -1,6 +1,8 @@
 -- What pages hold: a leaf its pairs, a branch its children and separators.
 use Prim.Native.Nat.{ℕ, _<_}
+use mathlib.Core.Bool.{cond}
 use mathlib.Core.List.{List, [], map}
+use lib.Dec.{ltb}
 use lib.ListN.{length, getD}
 use Rattle.std.specs.declared.option.Option.{Option}
 use Rattle.std.specs.declared.option.Option.the-variants.{Some, None}
@@ -42,6 +44,17 @@ keyOf p = p .key
 -- the key of the pair at place i; none, past the end
 abbrev pub keyAt : List Pair → ℕ → List ℕ
 keyAt ps i = keyOf (getD ps i (record { key = []; value = [] }))
+
+-- the value of the pair at place i; none, past the end
+abbrev pub valueAt : List Pair → ℕ → List ℕ
+valueAt ps i = getD ps i (record { key = []; value = [] }) .value
+
+-- the key of pair i, if there is such a pair, and its value
+abbrev pub keyOfPlace : ℕ → List Pair → Option (List ℕ)
+keyOfPlace i ps = cond (ltb i (length ps)) (Some (keyAt ps i)) None
+
+abbrev pub valueOfPlace : ℕ → List Pair → Option (List ℕ)
+valueOfPlace i ps = cond (ltb i (length ps)) (Some (valueAt ps i)) None
 
 -- where the pair with this key stands, if there is one
 abbrev pub FindsKey : List Pair → List ℕ → Option ℕ → Type 0

@@ -1,6 +1,6 @@
 ghost use mathlib.Core.List.{[]};
 ghost use mathlib.Core.Path.{_≡_};
-ghost use Rattle.page.specs.Growths.{PutsPair, RemovesPair};
+ghost use Rattle.page.specs.Growths.{PutsPair, RemovesPair, JoinsLeaves};
 ghost use Rattle.page.specs.Places.{upTo};
 ghost use Rattle.page.specs.Views.{leafPairs, keyOf, FindsKey};
 use crate::cell::LeafCell;
@@ -9,7 +9,10 @@ use crate::draft::key_at;
 use crate::grown::Grown;
 use crate::known::known;
 use crate::leaf::LeafPage;
+use crate::leaf::edits::both;
+use crate::leaf::edits::in_order;
 use crate::leaf::edits::no_pairs;
+use crate::leaf::edits::one_is_light;
 use crate::leaf::edits::with_cell;
 use crate::leaf::edits::without;
 use crate::search::place_above;
@@ -72,5 +75,21 @@ impl LeafPage {
         known::<LeafCell>(&self.bytes);
         let i = self.find(key)?;
         Some(without(&self.bytes, i))
+    }
+
+    // Two leaves as one, with the pairs of this one first: one page, or two; none, if neither is underfull, or the
+    // keys would not rise.
+    pub fn join(&self, right: &LeafPage) -> Option<Grown<LeafPage>>
+        ensures { λ r. ⌜ JoinsLeaves (now (self .entry)) (now (right .entry)) r ⌝ }
+    {
+        if !one_is_light(self, right) {
+            return None;
+        }
+        if !in_order(&self.bytes, &right.bytes) {
+            return None;
+        }
+        known::<LeafCell>(&self.bytes);
+        known::<LeafCell>(&right.bytes);
+        Some(both(&self.bytes, &right.bytes))
     }
 }

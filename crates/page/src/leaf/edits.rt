@@ -1,5 +1,5 @@
 ghost use mathlib.Core.Path.{_≡_};
-ghost use mathlib.Core.Bool.{true};
+ghost use mathlib.Core.Bool.{true, _||_};
 ghost use mathlib.Core.List.{[], _∷_, _++_, map};
 ghost use Prim.Native.Nat.{_+_, _-_, _<_, _≤_};
 ghost use lib.ListN.{length, getD, take, drop};
@@ -8,9 +8,9 @@ ghost use Rattle.cuts.specs.Cuts.{fair};
 ghost use Rattle.cuts.specs.Keys.{separator};
 ghost use Rattle.cuts.specs.Nodes.{pairCost};
 ghost use Rattle.tree.specs.Maps.{Rising};
-ghost use Rattle.page.specs.Growths.{leafGrown, fitted};
+ghost use Rattle.page.specs.Growths.{leafGrown, fitted, leafLight};
 ghost use Rattle.page.specs.Kinds.{leafGood, leafKey, leafRules, pairOf};
-ghost use Rattle.page.specs.Layout.{cost};
+ghost use Rattle.page.specs.Layout.{cost, cellsOf};
 ghost use Rattle.page.specs.Reading.{every, rising, sound};
 ghost use Rattle.page.specs.Shorts.{held};
 ghost use Rattle.page.specs.Splices.{cellsIn, Spliced, CutsLeaf};
@@ -18,7 +18,9 @@ ghost use Rattle.page.specs.Views.{leafPairs, pairsIn};
 use crate::cell::Cell;
 use crate::cell::LeafCell;
 use crate::cell::LeafKind;
+use crate::draft::count_of;
 use crate::draft::finish;
+use crate::draft::key_at;
 use crate::draft::start;
 use crate::edit::body;
 use crate::edit::cost;
@@ -30,6 +32,7 @@ use crate::known::known;
 use crate::leaf::LeafPage;
 use crate::short::Short;
 use crate::splice::Splice;
+use cuts::key_less;
 use cuts::separator_len;
 use device::PAGE_SIZE;
 use device::Page;
@@ -149,4 +152,54 @@ pub(crate) fn no_pairs() -> LeafPage
     start::<LeafCell>(&mut page, 0);
     finish::<LeafCell>(&mut page);
     LeafPage { bytes: page }
+}
+
+// Whether one of two leaves is underfull.
+pub(crate) fn one_is_light(left: &LeafPage, right: &LeafPage) -> bool
+    ensures { λ r. ⌜ r ≡ (leafLight (now (left .entry)) || leafLight (now (right .entry))) ⌝ }
+{
+    if left.cost() < 124 {
+        return true;
+    }
+    right.cost() < 124
+}
+
+// Whether the keys still rise where the cells of one leaf follow those of another.
+pub(crate) fn in_order(left: &Page, right: &Page) -> bool
+    requires left { ⌜ sound leafRules (now left) ≡ true ⌝ }
+    requires right { ⌜ sound leafRules (now right) ≡ true ⌝ }
+    ensures { λ r. ⌜ r ≡ rising leafKey (cellsOf (now (left .entry)) ++ cellsOf (now (right .entry))) ⌝ }
+{
+    known::<LeafCell>(left);
+    known::<LeafCell>(right);
+    let n = count_of(left);
+    if n == 0 {
+        return true;
+    }
+    if count_of(right) == 0 {
+        return true;
+    }
+    let last = key_at::<LeafCell>(left, n - 1);
+    let first = key_at::<LeafCell>(right, 0);
+    key_less(last, first)
+}
+
+// The cells of two leaves.
+pub(crate) fn both<'a>(left: &'a Page, right: &'a Page) -> Grown<LeafPage>
+    requires left { ⌜ sound leafRules (now left) ≡ true ⌝ }
+    requires right { ⌜ sound leafRules (now right) ≡ true ⌝ }
+    requires few { ⌜ cost (cellsOf (now left)) + cost (cellsOf (now right)) ≤ 692 ⌝ }
+    requires rises { ⌜ rising leafKey (cellsOf (now left) ++ cellsOf (now right)) ≡ true ⌝ }
+    ensures { λ r. ⌜ leafGrown r ≡ fitted (pairsIn (now (left .entry)) ++ pairsIn (now (right .entry))) ⌝ }
+{
+    known::<LeafCell>(left);
+    known::<LeafCell>(right);
+    let list = Splice {
+        front: left,
+        keep: count_of(left),
+        middle: None,
+        back: right,
+        skip: 0,
+    };
+    fit(&list)
 }
