@@ -110,3 +110,57 @@ fn removed_pairs_are_gone() -> Result<(), Fail> {
     }
     check(both.remove(b"tax").is_none())
 }
+
+// A leaf that costs 196 for one pair, and 68 and the value for the other.
+fn two_pairs(value: &[u8]) -> Result<LeafPage, Fail> {
+    let leaf = put(&LeafPage::empty(), &[2; 64], &[0; 128])?;
+    put(&leaf, &[3; 64], value)
+}
+
+// 123 and 373 make one leaf; 123 and 374 are cut.
+#[test]
+fn joined_leaves_fit_up_to_496() -> Result<(), Fail> {
+    let light = put(&LeafPage::empty(), &[1], &[0; 118])?;
+    check_eq(light.cost(), 123)?;
+    let right = two_pairs(&[0; 109])?;
+    check_eq(right.cost(), 373)?;
+    let Some(grown) = light.join(&right) else {
+        return Err(Fail::new("not joined"));
+    };
+    match grown {
+        Grown::One(leaf) => check_eq(leaf.len(), 3)?,
+        Grown::Two(_, _, _) => return Err(Fail::new("cut")),
+    }
+    let right = two_pairs(&[0; 110])?;
+    let Some(grown) = light.join(&right) else {
+        return Err(Fail::new("not joined"));
+    };
+    match grown {
+        Grown::One(_) => Err(Fail::new("not cut")),
+        Grown::Two(left, _, right) => {
+            check_eq(left.len(), 2)?;
+            check_eq(right.len(), 1)
+        }
+    }
+}
+
+#[test]
+fn leaves_out_of_order_or_filled_are_not_joined() -> Result<(), Fail> {
+    let light = put(&LeafPage::empty(), b"k", b"v")?;
+    let filled = two_pairs(&[0; 110])?;
+    check(light.join(&light).is_none())?;
+    check(filled.join(&filled).is_none())?;
+    check(LeafPage::empty().join(&light).is_some())
+}
+
+#[test]
+fn keys_and_values_by_place() -> Result<(), Fail> {
+    let leaf = put(&LeafPage::empty(), b"taxi", b"18.40")?;
+    let leaf = put(&leaf, b"cab", b"")?;
+    check(leaf.key(0) == Some(b"cab"))?;
+    check(leaf.value(0) == Some(b""))?;
+    check(leaf.key(1) == Some(b"taxi"))?;
+    check(leaf.value(1) == Some(b"18.40"))?;
+    check(leaf.key(2).is_none())?;
+    check(leaf.value(2).is_none())
+}
