@@ -1,4 +1,5 @@
 // Branches; the checksum of a whole page was computed by another program.
+use crate::texts::is;
 use page::BranchPage;
 use page::Cause;
 use page::CauseDebug;
@@ -35,13 +36,6 @@ fn root(left: u32, separator: &[u8], right: u32) -> Result<BranchPage, Fail> {
 fn three_children() -> Result<BranchPage, Fail> {
     let branch = root(5, b"cab13", 6)?;
     insert(&branch, 1, 6, b"tr", 9)
-}
-
-fn is(separator: Option<&[u8]>, text: &[u8]) -> bool {
-    match separator {
-        Some(s) => s == text,
-        None => false,
-    }
 }
 
 #[test]

@@ -1,4 +1,5 @@
 // Leaves; the checksums of whole pages were computed by another program.
+use crate::texts::is;
 use device::Page;
 use page::Cause;
 use page::CauseDebug;
@@ -157,10 +158,10 @@ fn leaves_out_of_order_or_filled_are_not_joined() -> Result<(), Fail> {
 fn keys_and_values_by_place() -> Result<(), Fail> {
     let leaf = put(&LeafPage::empty(), b"taxi", b"18.40")?;
     let leaf = put(&leaf, b"cab", b"")?;
-    check(leaf.key(0) == Some(b"cab"))?;
-    check(leaf.value(0) == Some(b""))?;
-    check(leaf.key(1) == Some(b"taxi"))?;
-    check(leaf.value(1) == Some(b"18.40"))?;
+    check(is(leaf.key(0), b"cab"))?;
+    check(is(leaf.value(0), b""))?;
+    check(is(leaf.key(1), b"taxi"))?;
+    check(is(leaf.value(1), b"18.40"))?;
     check(leaf.key(2).is_none())?;
     check(leaf.value(2).is_none())
 }

@@ -13,3 +13,5 @@ pub mod examples;
 mod leaves;
 #[cfg(test)]
 mod metas;
+#[cfg(test)]
+mod texts;
