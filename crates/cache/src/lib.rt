@@ -1,3 +1,5 @@
+#![tactic(auto)]
+
 mod cache;
 mod copy;
 mod slots;

@@ -1,4 +1,6 @@
 // Shows how many calls a device gets on a few workloads, with a cache over it and without.
+#![tactic(auto)]
+
 use cache::Cache;
 use device::{Device, DeviceFault, Reader};
 use disks::WriteBehind;

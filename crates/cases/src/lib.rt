@@ -1,4 +1,5 @@
 // Tests of the libraries, in a crate of their own: a crate with tests is proved twice.
+#![tactic(auto)]
 
 #[cfg(test)]
 mod branches;

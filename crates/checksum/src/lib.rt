@@ -1,4 +1,6 @@
 // CRC-32, and the checksum that every page carries.
+#![tactic(auto)]
+
 mod crc;
 mod page;
 mod table;

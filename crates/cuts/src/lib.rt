@@ -1,4 +1,6 @@
 // The order of keys, separators, and where an overfull list is cut.
+#![tactic(auto)]
+
 mod compare;
 pub mod laws;
 

@@ -4,6 +4,8 @@
 // Each says by two ghost members what it means: `medium`, the pages as a caller may observe them
 // (specs/Medium.antt), and `past`, the histories that may have led there (specs/History.antt). The contract of
 // each call is one relation between these before and after it (specs/Calls.antt).
+#![tactic(auto)]
+
 ghost use Rattle.std.specs.Prelude.{◌≡◌};
 ghost use Rattle.device.specs.Medium.{Medium, Whole};
 ghost use Rattle.device.specs.History.{History, Happens, did_read, did_write, did_sync, power_returned};

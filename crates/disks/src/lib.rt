@@ -1,3 +1,5 @@
+#![tactic(auto)]
+
 mod bank;
 mod fuse;
 mod image;

@@ -1,4 +1,6 @@
 // What a call of the store refuses: each fault with its number and its words.
+#![tactic(auto)]
+
 mod cause;
 mod fault;
 

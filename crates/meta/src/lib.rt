@@ -1,4 +1,6 @@
 // Meta pages: what a commit leaves in page 0 or 1, the test that such a page passes, and which of the two counts.
+#![tactic(auto)]
+
 mod bytes;
 mod choose;
 mod encode;

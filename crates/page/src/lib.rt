@@ -1,4 +1,6 @@
 // Pages of cells: their layout, their first fault, and their edits.
+#![tactic(auto)]
+
 mod branch;
 mod bytes;
 mod cell;

@@ -1,4 +1,6 @@
 // Shows the bytes of small pages, each as a table, and what reading a page finds when one of its bits is wrong.
+#![tactic(auto)]
+
 use anyhow::anyhow;
 use device::Page;
 use meta::Meta;

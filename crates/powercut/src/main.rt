@@ -1,5 +1,7 @@
 // Stores a fare record on a write-behind device, once for each call at which power can fail, and shows what the
 // device holds when power is back.
+#![tactic(auto)]
+
 use device::{Device, DeviceFault, Reader};
 use disks::WriteBehind;
 

@@ -2,6 +2,8 @@
 //
 // What it finds in a sound tree is what the map of the tree's pairs has (specs/Finding.antt). Each page is tested when
 // it is loaded; on pages that hold no such tree, a search is safe and ends.
+#![tactic(auto)]
+
 ghost use Rattle.tree.specs.Maps.{first_above};
 ghost use Rattle.search.specs.Finding.{Searches, pair_with};
 

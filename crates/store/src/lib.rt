@@ -1,4 +1,6 @@
 // The store: one ordered map on a device, with transactions.
+#![tactic(auto)]
+
 mod client;
 mod formatting;
 mod opening;

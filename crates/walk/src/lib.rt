@@ -1,4 +1,6 @@
 // The walk over the tree on a device's pages, and the check of a whole device.
+#![tactic(auto)]
+
 mod descent;
 mod inspection;
 mod marks;
