@@ -12,7 +12,7 @@ loop-b-preserved c =
     let i = c.loop-b.b-index in
     let bytes = c.args.bytes.now in
     let b = get_or bytes i 0 in
-    let t : bit_xor (r / 256) c.entry.result ≡ steps 8 (bit_xor r b) = ap (bit_xor (r / 256)) c.entry.ensures ∙ turn r b (omega (arith, c.type-inv.bytes i)) in
+    let t : bit_xor (r / 256) c.entry.result ≡ steps 8 (bit_xor r b) = ap (bit_xor (r / 256)) c.entry.ensures ∙ turn r b (omega (arith, c.type_inv.bytes i)) in
     ap (λ x. crc_from x (drop (i + 1) bytes)) t ∙ (sym (at_drop_more (crc_from r) bytes i 0 c.loop-b-test.true) ∙ c.loop-b.invariant)
 
 pub returns : goal.returns

@@ -8,6 +8,6 @@ pub returns : goal.returns
 unfolding sealed
 returns c = record {
   after = put_over 12 4 c.args.page.now _ (le32 (checksum_of c.args.page.now)) refl
-      (c.copy-from-slice.ensures.after ∙ (c.to-le-bytes.ensures ∙ ap le32 c.checksum-sum.ensures));
+      (c.copy_from_slice.ensures.after ∙ (c.to_le_bytes.ensures ∙ ap le32 c.checksum-sum.ensures));
   word = search rules;
 }

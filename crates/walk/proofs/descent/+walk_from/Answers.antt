@@ -15,7 +15,7 @@ use Rattle.walk.specs.Walking.{leaf_bytes, branch_bytes, Told, Walks}
 use Rattle.walk.proofs.Slots.{length_slots, drop_none}
 use Rattle.walk.proofs.Steps.{Going, Ends, below, marked_more, leaf_fault_lem, branch_fault_lem, walks_err, walks_leaf, going_none, going_more, going_broken, going_refused, going_done, begun}
 use Rattle.walk.proofs.descent.+walk_from.Goals as goal
-use Rattle.walk.proofs.descent.+walk_from.Goals.{In-ok-branch, In-Some, at·returns-then-not-admits, at·returns-in-err-pairs, at·add-i, at·loop-child-less, at·loop-child-again, at·returns}
+use Rattle.walk.proofs.descent.+walk_from.Goals.{In-ok-branch, In-Some, at-returns-then-not-admits, at-returns-in-err-pairs, at-add-i, at-loop-child-less, at-loop-child-again, at-returns}
 use Rattle.walk.proofs.descent.+walk_from.Given as given
 
 pub returns-in-err-leaf : goal.returns-in-err-leaf
@@ -79,13 +79,13 @@ turn g t c = rw c.in-Some.ensures at c.loop-child.invariant
 
 pub returns-then-not-admits : goal.returns-then-not-admits
 returns-then-not-admits g t c =
-    let a = at·returns-then-not-admits g t c in
+    let a = at-returns-then-not-admits g t c in
     let e = going_refused _ _ _ _ _ _ _ _ _ _ _ c.requires.small _ _ (turn g t a.In-Some) (sym c.admits.ensures ∙ c.if-not-admits.true) in
     rw c.damaged.ensures (record { room = tt; looks = whole g t a.In-Continue-branch _ _ _ _ e })
 
 pub returns-in-err-pairs : goal.returns-in-err-pairs
 returns-in-err-pairs g t c =
-    let a = at·returns-in-err-pairs g t c in
+    let a = at-returns-in-err-pairs g t c in
     let q = err_from_is_err_and c.from-residual-in-err-pairs.result c.from-residual-in-err-pairs.ensures.1 in
     let e = going_broken _ _ _ _ _ _ _ _ _ _ _ c.requires.small _ _ _ _ _ _ (turn g t a.In-Some) (sym c.admits.ensures ∙ c.if-not-admits.false) c.in-err-pairs.ensures in
     rw (q.1, q.2) (record { room = tt; looks = whole g t a.In-Continue-branch _ _ _ _ e })
@@ -102,18 +102,18 @@ few g t c =
     omega (arith, has.few, length_slots (low_of c.args.at) (high_of c.args.at) (branch_node b).first (branch_node b).rest, length-drop c.loop-child.i all, length-drop (c.loop-child.i + 1) all, ap length c.in-Some.ensures)
 
 pub overflow-add-i : goal.overflow-add-i
-overflow-add-i g t c = omega (arith, few g t (at·add-i g t c).In-Some)
+overflow-add-i g t c = omega (arith, few g t (at-add-i g t c).In-Some)
 
 pub loop-child-smaller : goal.loop-child-smaller
-loop-child-smaller g t c = omega (arith, few g t (at·loop-child-less g t c).In-Some)
+loop-child-smaller g t c = omega (arith, few g t (at-loop-child-less g t c).In-Some)
 
 pub loop-child-preserved : goal.loop-child-preserved
 loop-child-preserved g t c =
-    going_more _ _ _ _ _ _ _ _ _ _ _ c.requires.small _ _ _ _ _ _ (turn g t (at·loop-child-again g t c).In-Some) (sym c.admits.ensures ∙ c.if-not-admits.false) c.in-ok-pairs.ensures
+    going_more _ _ _ _ _ _ _ _ _ _ _ c.requires.small _ _ _ _ _ _ (turn g t (at-loop-child-again g t c).In-Some) (sym c.admits.ensures ∙ c.if-not-admits.false) c.in-ok-pairs.ensures
 
 pub returns : goal.returns
 returns g t c =
-    let a = at·returns g t c in
+    let a = at-returns g t c in
     let b = branch_node c.in-ok-branch.branch in
     let all = slots_of (low_of c.args.at) (high_of c.args.at) b in
     let none : drop c.loop-child.i all ≡ [] = drop_none c.loop-child.i all c.in-default.ensures in

@@ -6,21 +6,21 @@ use Rattle.cache.proofs.Fetched.{admitted_ok, fetch_crowded, fetch_lost, fetches
 use Rattle.cache.proofs.Places.{finding_new}
 use Rattle.cache.proofs.cache.Cache.fetch.Goals as goal
 
-pub returns-in-err-i : goal.returns-in-err-i
-returns-in-err-i g c =
-    let q = err_from_is_err_and c.from-residual.result c.from-residual.ensures.1 in
-    let h = c.in-err-i.ensures in
+pub returns-in_err-i : goal.returns-in_err-i
+returns-in_err-i g c =
+    let q = err_from_is_err_and c.from_residual.result c.from_residual.ensures.1 in
+    let h = c.in_err-i.ensures in
     let l = (admitted_ok _ _ _ c.requires.admits).0 in
     record {
       meaning = rw (q.1, q.2) (fetch_crowded _ _ _ l c.requires.clear h.goes);
       fetches = rw (q.1, q.2) (fetches_crowded _ _ _ (finding_new _ _ c.requires.misses h));
     }
 
-pub returns-in-err-read-below : goal.returns-in-err-read-below
-returns-in-err-read-below g c =
-    let q = err_from_is_err_and c.from-residual-in-err-read-below.result c.from-residual-in-err-read-below.ensures.1 in
-    let h = c.in-ok-i.ensures in
-    let p = c.in-err-read-below.ensures in
+pub returns-in_err-read_below : goal.returns-in_err-read_below
+returns-in_err-read_below g c =
+    let q = err_from_is_err_and c.from_residual-in_err-read_below.result c.from_residual-in_err-read_below.ensures.1 in
+    let h = c.in_ok-i.ensures in
+    let p = c.in_err-read_below.ensures in
     let l = (admitted_ok _ _ _ c.requires.admits).0 in
     record {
       meaning = rw (q.1, q.2) (fetch_lost _ _ _ l h.goes p);
@@ -29,18 +29,18 @@ returns-in-err-read-below g c =
 
 pub put-requires : goal.put-requires
 put-requires g c =
-    let h = c.in-ok-i.ensures in
-    let p = c.in-ok-read-below.ensures in
-    let pl = placed_there c.args.page c.in-ok-i.i (finding_new _ _ c.requires.misses h) p in
+    let h = c.in_ok-i.ensures in
+    let p = c.in_ok-read_below.ensures in
+    let pl = placed_there c.args.page c.in_ok-i.i (finding_new _ _ c.requires.misses h) p in
     record { within = pl.within; sized = search rules; apart = pl.apart }
 
 pub returns : goal.returns
 returns g c =
-    let h = c.in-ok-i.ensures in
-    let p = c.in-ok-read-below.ensures in
-    let i = c.in-ok-i.i in
-    let ss = c.read-below.new.self.slots.pages in
-    let k : Copied = record { page = c.args.page; changed = false; bytes = c.read-below.new.buffer } in
+    let h = c.in_ok-i.ensures in
+    let p = c.in_ok-read_below.ensures in
+    let i = c.in_ok-i.i in
+    let ss = c.read_below.new.self.slots.pages in
+    let k : Copied = record { page = c.args.page; changed = false; bytes = c.read_below.new.buffer } in
     let r : Replaces (slot_at ss i) k (copy_of ss) (copy_of c.touch.new.self.pages) =
     subst (λ (ts : List (Option Copied)). Replaces (slot_at ss i) k (copy_of ss) (copy_of ts)) (sym c.touch.ensures) c.put.ensures.replaces in
     let f = fetches_done {t = c.touch.new.self} i k (finding_new c.args.page _ c.requires.misses h) p c.requires.misses refl r in

@@ -6,10 +6,10 @@ use Rattle.cache.proofs.Fetched.{admitted_ok}
 use Rattle.cache.proofs.Stored.{store_lost, store_done, stores_lost, stores_done}
 use Rattle.cache.proofs.cache.Cache.store.Goals as goal
 
-pub returns-in-err-i : goal.returns-in-err-i
-returns-in-err-i g c =
-    let q = err_from_is_err_and c.from-residual.result c.from-residual.ensures.1 in
-    let f = c.in-err-i.ensures in
+pub returns-in_err-i : goal.returns-in_err-i
+returns-in_err-i g c =
+    let q = err_from_is_err_and c.from_residual.result c.from_residual.ensures.1 in
+    let f = c.in_err-i.ensures in
     record {
       meaning = rw (q.1, q.2) (store_lost _ _ _ (admitted_ok _ _ _ c.requires).0 f.goes);
       stores = rw (q.1, q.2) (stores_lost _ _ _ f);
@@ -17,9 +17,9 @@ returns-in-err-i g c =
 
 pub returns : goal.returns
 returns g c =
-    let f = c.in-ok-i.ensures in
-    let i = c.in-ok-i.i in
-    let ss = c.slot-for.new.self.slots.pages in
+    let f = c.in_ok-i.ensures in
+    let i = c.in_ok-i.i in
+    let ss = c.slot_for.new.self.slots.pages in
     let k : Copied = record { page = c.args.page; changed = true; bytes = c.args.bytes.now } in
     let r : Replaces (slot_at ss i) k (copy_of ss) (copy_of c.touch.new.self.pages) =
     subst (λ (ts : List (Option Copied)). Replaces (slot_at ss i) k (copy_of ss) (copy_of ts)) (sym c.touch.ensures) c.put.ensures.replaces in

@@ -5,7 +5,7 @@ use Rattle.cache.specs.declared.copy.Copied.{Copied}
 use Rattle.cache.specs.Held.{has, copy_of, slot_at}
 use Rattle.cache.proofs.Copies.{copy_at, search_more}
 use Rattle.cache.proofs.slots.Slots.find.Goals as goal
-use Rattle.cache.proofs.slots.Slots.find.Goals.{in-Some+else-copy-page, in-default}
+use Rattle.cache.proofs.slots.Slots.find.Goals.{in-Some+else-copy-page, in_default}
 
 pub returns-then-copy-page : goal.returns-then-copy-page
 returns-then-copy-page c =
@@ -23,7 +23,7 @@ loop-i-preserved c =
     let h : has (slot_at ss c.loop-i.i) c.args.page ≡ false =
     elim c.match-slot.branch [
       | in-Some+else-copy-page w ↦ ap (λ (s : Option Copied). has s c.args.page) w.in-Some.is ∙ ne_eqb _ _ w.if-copy-page.false
-      | in-default w ↦ ap (λ (s : Option Copied). has s c.args.page) w.in-default.is
+      | in_default w ↦ ap (λ (s : Option Copied). has s c.args.page) w.in_default.is
     ] in
     c.loop-i.invariant ∙ search_more ss c.loop-i.i c.args.page l h
 

@@ -3,8 +3,8 @@ use Rattle.std.proofs.lemmas.List.{length-set}
 use Rattle.cache.proofs.Copies.{distinct_set, replaces_set, sized_set}
 use Rattle.cache.proofs.slots.Slots.put.Goals as goal
 
-pub invariant-of-self : goal.invariant-of-self
-invariant-of-self c =
+pub invariant_of-self : goal.invariant_of-self
+invariant_of-self c =
     let l : c.args.i < length c.args.self.now.pages = omega arith in
     let r = replaces_set _ _ _ l c.args.self.now.distinct c.requires.apart in
     (search (rules, length-set), (distinct_set _ _ _ l c.args.self.now.distinct c.requires.apart, (sized_set _ _ _ _ r c.requires.sized c.args.self.now.sized, tt)))
