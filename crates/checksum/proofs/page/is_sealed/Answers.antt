@@ -8,4 +8,4 @@ unfolding is_sealed
 returns c =
     let g : take 4 c.to_le_bytes-sum.result ≡ le32 (checksum_of c.args.page.now) =
     ap (take 4) c.to_le_bytes-sum.ensures ∙ ap le32 c.checksum.ensures in
-    let h = c.eq.ensures in ?
+    rw (c.eq.ensures, g)
