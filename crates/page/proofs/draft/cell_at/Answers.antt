@@ -3,20 +3,20 @@ use Rattle.page.specs.Layout.{cells_of, cell_in}
 use Rattle.page.proofs.Pages.{edge_is, top_more, cell_in_lem}
 use Rattle.page.proofs.draft.cell_at.Goals as goal
 
-pub slice-bounds-result-count : goal.slice-bounds-result-count
-slice-bounds-result-count g c =
+pub slice_bounds-result-count : goal.slice_bounds-result-count
+slice_bounds-result-count g c =
     let s = c.requires.laid in
     let i = c.args.i in
     omega (arith, edge_is i s (omega arith), edge_is (i + 1) s (omega arith), top_more (cells_of c.args.page.now) i c.requires.within)
 
-pub slice-bounds-result-start : goal.slice-bounds-result-start
-slice-bounds-result-start g c =
+pub slice_bounds-result-start : goal.slice_bounds-result-start
+slice_bounds-result-start g c =
     let s = c.requires.laid in
     let i = c.args.i in
     omega (arith, edge_is i s (omega arith), edge_is (i + 1) s (omega arith), top_more (cells_of c.args.page.now) i c.requires.within)
 
-pub slice-bounds-result-end : goal.slice-bounds-result-end
-slice-bounds-result-end g c = omega (arith, edge_is c.args.i c.requires.laid (omega arith))
+pub slice_bounds-result-end : goal.slice_bounds-result-end
+slice_bounds-result-end g c = omega (arith, edge_is c.args.i c.requires.laid (omega arith))
 
 pub returns : goal.returns
 unfolding cell_in

@@ -4,11 +4,11 @@ use Rattle.page.proofs.Pages.{edge_is}
 use Rattle.page.proofs.Costs.{cost_edges, cost_part}
 use Rattle.page.proofs.draft.cost_between.Goals as goal
 
-pub overflow-add-result : goal.overflow-add-result
-overflow-add-result g c = omega (arith, edge_is c.args.i c.requires.laid (omega arith))
+pub overflow_add-result : goal.overflow_add-result
+overflow_add-result g c = omega (arith, edge_is c.args.i c.requires.laid (omega arith))
 
-pub overflow-sub-result-2 : goal.overflow-sub-result-2
-overflow-sub-result-2 g c =
+pub overflow_sub-result-2 : goal.overflow_sub-result-2
+overflow_sub-result-2 g c =
     omega (arith, edge_is c.args.i c.requires.laid (omega arith), edge_is c.args.j c.requires.laid (omega arith), cost_edges (cells_of c.args.page.now) c.args.i c.args.j c.requires.ordered c.requires.within c.requires.laid.room)
 
 pub returns : goal.returns

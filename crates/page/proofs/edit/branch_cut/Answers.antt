@@ -4,13 +4,13 @@ use Rattle.page.specs.Splices.{cells_in, body_cost}
 use Rattle.page.proofs.Cuts.{cost_total, total_step, total_end, middle_more, middle_stop, middle_end}
 use Rattle.page.proofs.edit.branch_cut.Goals as goal
 
-pub overflow-add-left-in-loop-i : goal.overflow-add-left-in-loop-i
-overflow-add-left-in-loop-i g c =
+pub overflow_add-left-in-loop-i : goal.overflow_add-left-in-loop-i
+overflow_add-left-in-loop-i g c =
     let xs = cells_in c.args.list.now in
     omega (arith, total_step xs c.loop-i.i (omega arith), ap length c.body.ensures, c.loop-i.invariant.1, cost_total xs, c.cost-all.ensures.value, c.cost-all.ensures.bound)
 
-pub overflow-mul-left : goal.overflow-mul-left
-overflow-mul-left g c =
+pub overflow_mul-left : goal.overflow_mul-left
+overflow_mul-left g c =
     let xs = cells_in c.args.list.now in
     omega (arith, total_step xs c.loop-i.i (omega arith), ap length c.body.ensures, c.loop-i.invariant.1, cost_total xs, c.cost-all.ensures.value, c.cost-all.ensures.bound)
 

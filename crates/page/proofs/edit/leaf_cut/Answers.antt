@@ -9,8 +9,8 @@ loop-i-init g c =
     let xs = cells_in c.args.list.now in
     (zero-add (fair body_cost 0 xs), c.cost-right.ensures.value ∙ cost_total xs, omega (arith, cost_total xs, c.cost-right.ensures.value))
 
-pub overflow-sub-right : goal.overflow-sub-right
-overflow-sub-right g c =
+pub overflow_sub-right : goal.overflow_sub-right
+overflow_sub-right g c =
     omega (arith, total_step (cells_in c.args.list.now) c.loop-i.i (omega arith), ap length c.body.ensures, c.loop-i.invariant.1)
 
 pub returns-then-left-right : goal.returns-then-left-right
@@ -20,8 +20,8 @@ returns-then-left-right g c =
     let t = total_step xs i (omega arith) in
     omega (arith, c.loop-i.invariant.0, fair_stop xs i c.loop-i.left (omega arith) (omega (arith, t, ap length c.body.ensures, c.loop-i.invariant.1)))
 
-pub overflow-add-left : goal.overflow-add-left
-overflow-add-left g c =
+pub overflow_add-left : goal.overflow_add-left
+overflow_add-left g c =
     omega (arith, total_step (cells_in c.args.list.now) c.loop-i.i (omega arith), ap length c.body.ensures, c.loop-i.invariant.1, c.loop-i.invariant.2, cost_total (cells_in c.args.list.now), c.cost-right.ensures.value, c.cost-right.ensures.bound)
 
 pub loop-i-preserved : goal.loop-i-preserved

@@ -5,12 +5,12 @@ use Rattle.page.proofs.Orders.{less_at}
 use Rattle.page.proofs.Places.{up_to_is, front_at_most, back_above}
 use Rattle.page.proofs.search.place_above.Goals as goal
 
-pub loop-low-preserved-then-key-less : goal.loop-low-preserved-then-key-less
-loop-low-preserved-then-key-less g c =
+pub loop-low-preserved-then-key_less : goal.loop-low-preserved-then-key_less
+loop-low-preserved-then-key_less g c =
     let xs = cells_of c.args.page.now in
     let key = g.C.Cell.rules.key in
     let m = c.loop-low.low + (c.loop-low.high - c.loop-low.low) / 2 in
-    let b : key< c.args.sought.now (key (get_or xs m [])) ≡ true = less_at refl c.key-at.ensures c.if-key-less.ensures in
+    let b : key< c.args.sought.now (key (get_or xs m [])) ≡ true = less_at refl c.key_at.ensures c.if-key_less.ensures in
     (omega arith, omega arith, c.loop-low.invariant.2, back_above key c.args.sought.now xs c.requires.rises m (omega arith) b)
 
 pub loop-low-preserved : goal.loop-low-preserved
@@ -18,7 +18,7 @@ loop-low-preserved g c =
     let xs = cells_of c.args.page.now in
     let key = g.C.Cell.rules.key in
     let m = c.loop-low.low + (c.loop-low.high - c.loop-low.low) / 2 in
-    let b : key< c.args.sought.now (key (get_or xs m [])) ≡ false = less_at refl c.key-at.ensures c.if-key-less.ensures in
+    let b : key< c.args.sought.now (key (get_or xs m [])) ≡ false = less_at refl c.key_at.ensures c.if-key_less.ensures in
     (omega arith, c.loop-low.invariant.1, front_at_most key c.args.sought.now xs c.requires.rises m (omega arith) b, c.loop-low.invariant.3)
 
 pub returns : goal.returns

@@ -5,12 +5,12 @@ use Rattle.page.specs.Reading.{rising}
 use Rattle.page.proofs.Orders.{less_at, rising_step, rising_end}
 use Rattle.page.proofs.test.is_rising.Goals as goal
 
-pub returns-then-not-key-less : goal.returns-then-not-key-less
-returns-then-not-key-less g c =
+pub returns-then-not-key_less : goal.returns-then-not-key_less
+returns-then-not-key_less g c =
     let key = g.C.Cell.rules.key in
     let xs = cells_of c.args.page.now in
     let i = c.loop-i.i in
-    let e : key< (key (get_or xs (i - 1) [])) (key (get_or xs i [])) ≡ false = less_at c.key-at.ensures c.key-at-in-loop-i.ensures c.if-not-key-less.ensures in
+    let e : key< (key (get_or xs (i - 1) [])) (key (get_or xs i [])) ≡ false = less_at c.key_at.ensures c.key_at-in-loop-i.ensures c.if-not-key_less.ensures in
     sym (sym c.loop-i.invariant ∙ (rising_step key xs i (omega arith) (omega arith) ∙ ap (λ t. t && rising key (drop i xs)) e))
 
 pub loop-i-preserved : goal.loop-i-preserved
@@ -18,7 +18,7 @@ loop-i-preserved g c =
     let key = g.C.Cell.rules.key in
     let xs = cells_of c.args.page.now in
     let i = c.loop-i.i in
-    let e : key< (key (get_or xs (i - 1) [])) (key (get_or xs i [])) ≡ true = less_at c.key-at.ensures c.key-at-in-loop-i.ensures c.if-not-key-less.ensures in
+    let e : key< (key (get_or xs (i - 1) [])) (key (get_or xs i [])) ≡ true = less_at c.key_at.ensures c.key_at-in-loop-i.ensures c.if-not-key_less.ensures in
     let n : i + 1 - 1 ≡ i = omega arith in
     ap (λ m. rising key (drop m xs)) n ∙ (sym (rising_step key xs i (omega arith) (omega arith) ∙ ap (λ t. t && rising key (drop i xs)) e) ∙ c.loop-i.invariant)
 

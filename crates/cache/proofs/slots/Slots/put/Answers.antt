@@ -7,7 +7,11 @@ pub invariant_of-self : goal.invariant_of-self
 invariant_of-self c =
     let l : c.args.i < length c.args.self.now.pages = omega arith in
     let r = replaces_set _ _ _ l c.args.self.now.distinct c.requires.apart in
-    (search (rules, length-set), (distinct_set _ _ _ l c.args.self.now.distinct c.requires.apart, (sized_set _ _ _ _ r c.requires.sized c.args.self.now.sized, tt)))
+    record {
+      eight = search (rules, length-set);
+      distinct = distinct_set _ _ _ l c.args.self.now.distinct c.requires.apart;
+      sized = sized_set _ _ _ _ r c.requires.sized c.args.self.now.sized;
+    }
 
 pub returns : goal.returns
 returns c =

@@ -20,9 +20,9 @@ placed-requires c =
     let ps = map cell_of (cells_of a) in
     let n = c.len.result in
     let t = ap (total cell_cost) (take_all n ps (omega arith)) in
-    let f = light_few (total cell_cost ps) (total cell_cost (map cell_of (cells_of b))) (omega (arith, cells_cost a p, p.laid.room)) (omega (arith, cells_cost b q, q.laid.room)) (sym c.if-not-one-is-light.ensures) in
+    let f = light_few (total cell_cost ps) (total cell_cost (map cell_of (cells_of b))) (omega (arith, cells_cost a p, p.laid.room)) (omega (arith, cells_cost b q, q.laid.room)) (sym c.if-not-one_is_light.ensures) in
     record { keep = omega arith; skip = omega arith; few = omega (arith, t, f) }
 
 pub returns : goal.returns
 returns c =
-    joins c.args.self.now c.args.right.now c.args.separator.now c.len.result c.leftmost-of.result c.placed.result (sym c.if-not-one-is-light.ensures) c.len.ensures c.leftmost-of.ensures c.placed.ensures
+    joins c.args.self.now c.args.right.now c.args.separator.now c.len.result c.leftmost_of.result c.placed.result (sym c.if-not-one_is_light.ensures) c.len.ensures c.leftmost_of.ensures c.placed.ensures

@@ -3,4 +3,4 @@ use Rattle.std.proofs.lemmas.List.{length-map}
 use Rattle.page.proofs.branch.BranchPage.len.Goals as goal
 
 pub returns : goal.returns
-returns c = c.count-of.ensures ∙ sym (length-map _ _)
+returns c = c.count_of.ensures ∙ sym (length-map _ _)

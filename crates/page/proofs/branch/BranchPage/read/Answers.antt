@@ -3,5 +3,5 @@ use Rattle.page.specs.Kinds.{branch_rules}
 use Rattle.page.proofs.Sounds.{sound_none}
 use Rattle.page.proofs.branch.BranchPage.read.Goals as goal
 
-pub invariant-of-result : goal.invariant-of-result
-invariant-of-result c = (sound_none branch_rules c.args.bytes.now (sym c.in-None.ensures), tt)
+pub invariant_of-result : goal.invariant_of-result
+invariant_of-result c = (sound_none branch_rules c.args.bytes.now (sym c.in-None.ensures), tt)

@@ -6,8 +6,8 @@ use Rattle.page.specs.Reading.{sound}
 use Rattle.page.proofs.Children.{branch_bytes_lem, separator_some}
 use Rattle.page.proofs.branch.BranchPage.separator.Goals as goal
 
-pub key-at-requires : goal.key-at-requires
-key-at-requires c =
+pub key_at-requires : goal.key_at-requires
+key_at-requires c =
     let b = c.args.self.now.bytes in
     let s : sound branch_rules b ≡ true = search rules in
     let p = branch_bytes_lem b s in
@@ -16,4 +16,4 @@ key-at-requires c =
 pub returns : goal.returns
 returns c =
     let b = c.args.self.now.bytes in
-    separator_some (left_of b) (cells_of b) c.args.i _ (omega arith) c.key-at.ensures
+    separator_some (left_of b) (cells_of b) c.args.i _ (omega arith) c.key_at.ensures

@@ -12,8 +12,8 @@ pub returns-then-n-eq0 : goal.returns-then-n-eq0
 returns-then-n-eq0 c =
     sym (ends_none (cells_of c.args.page.now.bytes) c.args.separator.now c.args.n c.if-n-eq0.true)
 
-pub key-at-requires : goal.key-at-requires
-key-at-requires c =
+pub key_at-requires : goal.key_at-requires
+key_at-requires c =
     let b = c.args.page.now.bytes in
     let s : sound branch_rules b ≡ true = search rules in
     let p = branch_bytes_lem b s in
@@ -23,4 +23,4 @@ pub returns : goal.returns
 returns c =
     let xs = cells_of c.args.page.now.bytes in
     let s = c.args.separator.now in
-    c.key-less.ensures ∙ (ap (λ k. key< k s) c.key-at.ensures ∙ sym (ends_at xs s c.args.n (omega arith) (omega (arith, length-map xs cell_of, c.requires))))
+    c.key_less.ensures ∙ (ap (λ k. key< k s) c.key_at.ensures ∙ sym (ends_at xs s c.args.n (omega arith) (omega (arith, length-map xs cell_of, c.requires))))

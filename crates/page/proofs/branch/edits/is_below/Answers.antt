@@ -7,12 +7,12 @@ use Rattle.cuts.specs.Keys.{key<}
 use Rattle.page.proofs.BranchOrders.{starts_none, starts_at}
 use Rattle.page.proofs.branch.edits.is_below.Goals as goal
 
-pub returns-then-n-count-of : goal.returns-then-n-count-of
-returns-then-n-count-of c =
+pub returns-then-n-count_of : goal.returns-then-n-count_of
+returns-then-n-count_of c =
     sym (starts_none (cells_of c.args.page.now.bytes) c.args.separator.now c.args.n (omega arith))
 
-pub key-at-requires : goal.key-at-requires
-key-at-requires c =
+pub key_at-requires : goal.key_at-requires
+key_at-requires c =
     let b = c.args.page.now.bytes in
     let s : sound branch_rules b ≡ true = search rules in
     let p = branch_bytes_lem b s in
@@ -22,4 +22,4 @@ pub returns : goal.returns
 returns c =
     let xs = cells_of c.args.page.now.bytes in
     let s = c.args.separator.now in
-    c.key-less.ensures ∙ (ap (key< s) c.key-at.ensures ∙ sym (starts_at xs s c.args.n (omega arith)))
+    c.key_less.ensures ∙ (ap (key< s) c.key_at.ensures ∙ sym (starts_at xs s c.args.n (omega arith)))

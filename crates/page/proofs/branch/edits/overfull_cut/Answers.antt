@@ -11,6 +11,6 @@ returns c =
     let xs = cells_in c.args.list.now in
     let g = c.requires.goods in
     record {
-      value = c.branch-cut.ensures ∙ (ap (λ t. middle body_cost t 0 xs) (sym (total_cells xs g)) ∙ sym (middle_cells (total cell_cost (map cell_of xs)) 0 xs g));
-      parts = cut_fits xs c.branch-cut.result g c.requires.overfull c.requires.few c.branch-cut.ensures;
+      value = c.branch_cut.ensures ∙ (ap (λ t. middle body_cost t 0 xs) (sym (total_cells xs g)) ∙ sym (middle_cells (total cell_cost (map cell_of xs)) 0 xs g));
+      parts = cut_fits xs c.branch_cut.result g c.requires.overfull c.requires.few c.branch_cut.ensures;
     }

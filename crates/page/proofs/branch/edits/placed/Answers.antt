@@ -12,26 +12,26 @@ use Rattle.page.proofs.BranchLists.{body_good, cell_body}
 use Rattle.page.proofs.BranchOrders.{sorted_parts, sorted_from}
 use Rattle.page.proofs.branch.edits.placed.Goals as goal
 
-pub returns-then-not-is-above : goal.returns-then-not-is-above
-returns-then-not-is-above c h =
+pub returns-then-not-is_above : goal.returns-then-not-is_above
+returns-then-not-is_above c h =
     let a = c.args.front.now.bytes in
     let b = c.args.back.now.bytes in
     let sa : sound branch_rules a ≡ true = search rules in
     let sb : sound branch_rules b ≡ true = search rules in
     let p = sorted_parts (cells_of a) (cells_of b) (branch_bytes_lem a sa).rises (branch_bytes_lem b sb).rises c.args.keep c.args.skip c.args.separator.now c.args.child h.1 in
-    false≢true (c.if-not-is-above.ensures ∙ p.0)
+    false≢true (c.if-not-is_above.ensures ∙ p.0)
 
-pub returns-then-not-is-below : goal.returns-then-not-is-below
-returns-then-not-is-below c h =
+pub returns-then-not-is_below : goal.returns-then-not-is_below
+returns-then-not-is_below c h =
     let a = c.args.front.now.bytes in
     let b = c.args.back.now.bytes in
     let sa : sound branch_rules a ≡ true = search rules in
     let sb : sound branch_rules b ≡ true = search rules in
     let p = sorted_parts (cells_of a) (cells_of b) (branch_bytes_lem a sa).rises (branch_bytes_lem b sb).rises c.args.keep c.args.skip c.args.separator.now c.args.child h.1 in
-    false≢true (c.if-not-is-below.ensures ∙ p.1)
+    false≢true (c.if-not-is_below.ensures ∙ p.1)
 
-pub with-cell-requires : goal.with-cell-requires
-with-cell-requires c =
+pub with_cell-requires : goal.with_cell-requires
+with_cell-requires c =
     let a = c.args.front.now.bytes in
     let b = c.args.back.now.bytes in
     let sa : sound branch_rules a ≡ true = search rules in
@@ -42,8 +42,8 @@ with-cell-requires c =
     let m = c.args.skip in
     let f : KeyFits s = (omega arith, omega arith) in
     let l : x < 2 ^ 32 = omega arith in
-    let e : c.as-slice.result.now ≡ branch_body (cell s x) = c.as-slice.ensures ∙ c.branch-cell-cell.ensures in
-    let r = sorted_from (cells_of a) (cells_of b) (branch_bytes_lem a sa).rises (branch_bytes_lem b sb).rises k m s x (sym c.if-not-is-above.ensures) (sym c.if-not-is-below.ensures) in
+    let e : c.as_slice.result.now ≡ branch_body (cell s x) = c.as_slice.ensures ∙ c.branch_cell-cell.ensures in
+    let r = sorted_from (cells_of a) (cells_of b) (branch_bytes_lem a sa).rises (branch_bytes_lem b sb).rises k m s x (sym c.if-not-is_above.ensures) (sym c.if-not-is_below.ensures) in
     record {
       keep = c.requires.keep;
       skip = c.requires.skip;
@@ -64,6 +64,6 @@ returns c =
     let m = c.args.skip in
     let f : KeyFits s = (omega arith, omega arith) in
     let l : x < 2 ^ 32 = omega arith in
-    let e : c.as-slice.result.now ≡ branch_body (cell s x) = c.as-slice.ensures ∙ c.branch-cell-cell.ensures in
-    let r = sorted_from (cells_of a) (cells_of b) (branch_bytes_lem a sa).rises (branch_bytes_lem b sb).rises k m s x (sym c.if-not-is-above.ensures) (sym c.if-not-is-below.ensures) in
-    ((f, r), c.with-cell.ensures ∙ ap (λ d. fitted_branch (branch (left_of a) (take k (map cell_of (cells_of a)) ++ d ∷ drop m (map cell_of (cells_of b))))) (ap cell_of e ∙ cell_body s x l))
+    let e : c.as_slice.result.now ≡ branch_body (cell s x) = c.as_slice.ensures ∙ c.branch_cell-cell.ensures in
+    let r = sorted_from (cells_of a) (cells_of b) (branch_bytes_lem a sa).rises (branch_bytes_lem b sb).rises k m s x (sym c.if-not-is_above.ensures) (sym c.if-not-is_below.ensures) in
+    ((f, r), c.with_cell.ensures ∙ ap (λ d. fitted_branch (branch (left_of a) (take k (map cell_of (cells_of a)) ++ d ∷ drop m (map cell_of (cells_of b))))) (ap cell_of e ∙ cell_body s x l))

@@ -6,4 +6,4 @@ pub push-requires : goal.push-requires
 push-requires c =
     let b = c.args.cell.now in
     let p = branch_parts_of b c.requires in
-    omega (arith, ap length c.new-separator.ensures, ap length c.key-of.ensures, key_length b c.requires, p.short)
+    omega (arith, ap length c.new-separator.ensures, ap length c.key_of.ensures, key_length b c.requires, p.short)

@@ -8,8 +8,8 @@ use Rattle.page.specs.Splices.{cells_in}
 use Rattle.page.proofs.Pages.{all_is}
 use Rattle.page.proofs.branch.edits.whole.Goals as goal
 
-pub branch-part-requires : goal.branch-part-requires
-branch-part-requires c = record {
+pub branch_part-requires : goal.branch_part-requires
+branch_part-requires c = record {
   spliced = c.requires.spliced;
   goods = c.requires.goods;
   rises = c.requires.rises;
@@ -21,4 +21,4 @@ branch-part-requires c = record {
 pub returns : goal.returns
 returns c =
     let xs = cells_in c.args.list.now in
-    c.branch-part.ensures ∙ ap (branch c.args.leftmost) (between_to_end (map cell_of xs) 0 c.len-n.result (omega (arith, length-map xs cell_of)))
+    c.branch_part.ensures ∙ ap (branch c.args.leftmost) (between_to_end (map cell_of xs) 0 c.len-n.result (omega (arith, length-map xs cell_of)))

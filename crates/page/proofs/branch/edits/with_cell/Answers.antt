@@ -43,4 +43,4 @@ returns c =
     let k = c.args.keep in
     let m = c.args.skip in
     let d = c.args.cell.now in
-    c.fit.ensures ∙ ap fitted_branch (ap (λ l. branch l (map cell_of (take k xs ++ d ∷ drop m ys))) c.leftmost-of.ensures ∙ ap (branch (left_of a)) (with_cells xs ys k m d))
+    c.fit.ensures ∙ ap fitted_branch (ap (λ l. branch l (map cell_of (take k xs ++ d ∷ drop m ys))) c.leftmost_of.ensures ∙ ap (branch (left_of a)) (with_cells xs ys k m d))

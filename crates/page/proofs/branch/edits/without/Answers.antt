@@ -30,10 +30,10 @@ returns c =
     let b = c.args.page.now.bytes in
     let xs = cells_of b in
     let i = c.args.i in
-    c.whole.ensures ∙ (ap (λ l. branch l (map cell_of (take i xs ++ drop (i + 1) xs))) c.leftmost-of.ensures ∙ ap (branch (left_of b)) (joined_cells xs xs i (i + 1)))
+    c.whole.ensures ∙ (ap (λ l. branch l (map cell_of (take i xs ++ drop (i + 1) xs))) c.leftmost_of.ensures ∙ ap (branch (left_of b)) (joined_cells xs xs i (i + 1)))
 
-pub overflow-add-list : goal.overflow-add-list
-overflow-add-list c =
+pub overflow_add-list : goal.overflow_add-list
+overflow_add-list c =
     let b = c.args.page.now.bytes in
     let s : sound branch_rules b ≡ true = search rules in
     omega (arith, (branch_bytes_lem b s).laid.room, length-map (cells_of b) cell_of, c.requires)

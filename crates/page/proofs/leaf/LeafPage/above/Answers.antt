@@ -4,4 +4,4 @@ use Rattle.page.proofs.Finds.{up_to_pairs}
 use Rattle.page.proofs.leaf.LeafPage.above.Goals as goal
 
 pub returns : goal.returns
-returns c = c.place-above.ensures ∙ sym (up_to_pairs c.args.key.now (cells_of c.args.self.now.bytes))
+returns c = c.place_above.ensures ∙ sym (up_to_pairs c.args.key.now (cells_of c.args.self.now.bytes))

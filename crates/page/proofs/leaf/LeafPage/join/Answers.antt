@@ -8,12 +8,12 @@ use Rattle.page.proofs.Fits.{pairs_cost}
 use Rattle.page.proofs.LeafJoins.{pairs_rise, cells_rise}
 use Rattle.page.proofs.leaf.LeafPage.join.Goals as goal
 
-pub returns-then-not-one-is-light : goal.returns-then-not-one-is-light
-returns-then-not-one-is-light c h = false≢true (c.if-not-one-is-light.ensures ∙ h.0)
+pub returns-then-not-one_is_light : goal.returns-then-not-one_is_light
+returns-then-not-one_is_light c h = false≢true (c.if-not-one_is_light.ensures ∙ h.0)
 
-pub returns-then-not-in-order : goal.returns-then-not-in-order
-returns-then-not-in-order c h =
-    false≢true (c.if-not-in-order.ensures ∙ cells_rise (cells_of c.args.self.now.bytes) (cells_of c.args.right.now.bytes) h.1)
+pub returns-then-not-in_order : goal.returns-then-not-in_order
+returns-then-not-in_order c h =
+    false≢true (c.if-not-in_order.ensures ∙ cells_rise (cells_of c.args.self.now.bytes) (cells_of c.args.right.now.bytes) h.1)
 
 pub both-requires : goal.both-requires
 both-requires c =
@@ -21,12 +21,12 @@ both-requires c =
     let b = c.args.right.now.bytes in
     let p = pairs_cost (cells_of a) c.known.ensures.goods in
     let q = pairs_cost (cells_of b) c.known-2.ensures.goods in
-    let f = light_few (leaf_cost (pairs_in a)) (leaf_cost (pairs_in b)) (omega (arith, p, c.known.ensures.laid.room)) (omega (arith, q, c.known-2.ensures.laid.room)) (sym c.if-not-one-is-light.ensures) in
-    record { left = c.args.self.now.sound; right = c.args.right.now.sound; few = omega (arith, p, q, f); rises = sym c.if-not-in-order.ensures }
+    let f = light_few (leaf_cost (pairs_in a)) (leaf_cost (pairs_in b)) (omega (arith, p, c.known.ensures.laid.room)) (omega (arith, q, c.known-2.ensures.laid.room)) (sym c.if-not-one_is_light.ensures) in
+    record { left = c.args.self.now.sound; right = c.args.right.now.sound; few = omega (arith, p, q, f); rises = sym c.if-not-in_order.ensures }
 
 pub returns : goal.returns
 returns c = (
-  sym c.if-not-one-is-light.ensures,
-  pairs_rise (cells_of c.args.self.now.bytes) (cells_of c.args.right.now.bytes) (sym c.if-not-in-order.ensures),
+  sym c.if-not-one_is_light.ensures,
+  pairs_rise (cells_of c.args.self.now.bytes) (cells_of c.args.right.now.bytes) (sym c.if-not-in_order.ensures),
   c.both.ensures,
 )

@@ -5,12 +5,12 @@ use Rattle.page.specs.Layout.{cells_of}
 use Rattle.page.proofs.Finds.{key_some}
 use Rattle.page.proofs.leaf.LeafPage.key.Goals as goal
 
-pub key-at-requires : goal.key-at-requires
-key-at-requires c = record {
+pub key_at-requires : goal.key_at-requires
+key_at-requires c = record {
   laid = c.known.ensures.laid;
   goods = c.known.ensures.goods;
   within = omega (arith, length-map (cells_of c.args.self.now.bytes) pair_of);
 }
 
 pub returns : goal.returns
-returns c = key_some (cells_of c.args.self.now.bytes) c.args.i _ (omega arith) c.key-at.ensures
+returns c = key_some (cells_of c.args.self.now.bytes) c.args.i _ (omega arith) c.key_at.ensures

@@ -19,17 +19,17 @@ cell_good k v b e s l m = ap leaf_good e ∙ good_body (pair k v) (s, l) m
 cell_pair : (k v b : List ℕ) → b ≡ leaf_body (pair k v) → pair_of b ≡ pair k v
 cell_pair k v b e = ap pair_of e ∙ pair_back (pair k v)
 
-pub overflow-add-i : goal.overflow-add-i
-overflow-add-i c =
+pub overflow_add-i : goal.overflow_add-i
+overflow_add-i c =
     let f = c.in-Some.ensures.0 in
     omega (arith, length-map (cells_of c.args.self.now.bytes) pair_of, c.known.ensures.laid.room)
 
-pub with-cell-requires : goal.with-cell-requires
-with-cell-requires c =
+pub with_cell-requires : goal.with_cell-requires
+with_cell-requires c =
     let ps = pairs_in c.args.self.now.bytes in
     let k = c.args.key.now in
     let v = c.args.value.now in
-    let e = c.as-slice.ensures ∙ c.leaf-cell-cell.ensures in
+    let e = c.as_slice.ensures ∙ c.leaf_cell-cell.ensures in
     let r = rising_pairs (cells_of c.args.self.now.bytes) c.known.ensures.rises in
     let f = c.in-Some.ensures.0 in
     record {
@@ -40,13 +40,13 @@ with-cell-requires c =
       rises = subst Rising (sym (put_old k v ps c.in-Some.i _ r c.in-Some.ensures (cell_pair k v _ e))) (insert_rising k v ps r);
     }
 
-pub with-cell-requires-in-None : goal.with-cell-requires-in-None
-with-cell-requires-in-None c =
+pub with_cell-requires-in-None : goal.with_cell-requires-in-None
+with_cell-requires-in-None c =
     let xs = cells_of c.args.self.now.bytes in
     let ps = pairs_in c.args.self.now.bytes in
     let k = c.args.key.now in
     let v = c.args.value.now in
-    let e = c.as-slice-in-None.ensures ∙ c.leaf-cell-cell.ensures in
+    let e = c.as_slice-in-None.ensures ∙ c.leaf_cell-cell.ensures in
     let r = rising_pairs xs c.known.ensures.rises in
     record {
       sound = c.args.self.now.sound;
@@ -61,11 +61,11 @@ returns-in-Some c =
     let ps = pairs_in c.args.self.now.bytes in
     let k = c.args.key.now in
     let v = c.args.value.now in
-    let e = c.as-slice.ensures ∙ c.leaf-cell-cell.ensures in
+    let e = c.as_slice.ensures ∙ c.leaf_cell-cell.ensures in
     let r = rising_pairs (cells_of c.args.self.now.bytes) c.known.ensures.rises in (
       (omega arith, omega arith),
       omega arith,
-      c.with-cell.ensures ∙ ap fitted (put_old k v ps c.in-Some.i _ r c.in-Some.ensures (cell_pair k v _ e)),
+      c.with_cell.ensures ∙ ap fitted (put_old k v ps c.in-Some.i _ r c.in-Some.ensures (cell_pair k v _ e)),
     )
 
 pub returns-in-None : goal.returns-in-None
@@ -73,8 +73,8 @@ returns-in-None c =
     let ps = pairs_in c.args.self.now.bytes in
     let k = c.args.key.now in
     let v = c.args.value.now in
-    let e = c.as-slice-in-None.ensures ∙ c.leaf-cell-cell.ensures in (
+    let e = c.as_slice-in-None.ensures ∙ c.leaf_cell-cell.ensures in (
       (omega arith, omega arith),
       omega arith,
-      c.with-cell-in-None.ensures ∙ ap fitted (put_new k v ps c.above-at.result _ c.in-None.ensures c.above-at.ensures (cell_pair k v _ e)),
+      c.with_cell-in-None.ensures ∙ ap fitted (put_new k v ps c.above-at.result _ c.in-None.ensures c.above-at.ensures (cell_pair k v _ e)),
     )

@@ -10,12 +10,12 @@ pub without-requires : goal.without-requires
 without-requires c =
     let ps = pairs_in c.args.self.now.bytes in
     let r = rising_pairs (cells_of c.args.self.now.bytes) c.known.ensures.rises in
-    let f = c.in-ok-i.ensures in
-    record { sound = c.args.self.now.sound; within = f.0; rises = subst Rising (sym (remove_old c.args.key.now ps c.in-ok-i.i r f)) (delete_rising c.args.key.now ps r) }
+    let f = c.in_ok-i.ensures in
+    record { sound = c.args.self.now.sound; within = f.0; rises = subst Rising (sym (remove_old c.args.key.now ps c.in_ok-i.i r f)) (delete_rising c.args.key.now ps r) }
 
 pub returns : goal.returns
 returns c =
     let ps = pairs_in c.args.self.now.bytes in
     let r = rising_pairs (cells_of c.args.self.now.bytes) c.known.ensures.rises in
-    let f = c.in-ok-i.ensures in
-    ((c.in-ok-i.i, f), c.without.ensures ∙ remove_old c.args.key.now ps c.in-ok-i.i r f)
+    let f = c.in_ok-i.ensures in
+    ((c.in_ok-i.i, f), c.without.ensures ∙ remove_old c.args.key.now ps c.in_ok-i.i r f)

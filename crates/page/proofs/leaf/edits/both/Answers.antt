@@ -13,12 +13,12 @@ pub fit-requires : goal.fit-requires
 fit-requires c =
     let xs = cells_of c.args.left.now in
     let ys = cells_of c.args.right.now in
-    let e = all_first xs ys c.count-of.result c.count-of.ensures in
+    let e = all_first xs ys c.count_of.result c.count_of.ensures in
     record {
       spliced = record {
         front = c.known.ensures.laid;
         back = c.known-2.ensures.laid;
-        keep = omega (arith, c.count-of.ensures);
+        keep = omega (arith, c.count_of.ensures);
         skip = omega arith;
         small = omega (arith, cost_none);
       };
@@ -31,5 +31,5 @@ pub returns : goal.returns
 returns c =
     let xs = cells_of c.args.left.now in
     let ys = cells_of c.args.right.now in
-    let e = all_first xs ys c.count-of.result c.count-of.ensures in
+    let e = all_first xs ys c.count_of.result c.count_of.ensures in
     c.fit.ensures ∙ ap fitted (ap (map pair_of) e ∙ map-append pair_of xs ys)

@@ -5,8 +5,8 @@ use Rattle.page.proofs.Pages.{all_is}
 use Rattle.page.proofs.Fits.{fits_one, fits_two}
 use Rattle.page.proofs.leaf.edits.fit.Goals as goal
 
-pub leaf-part-requires : goal.leaf-part-requires
-leaf-part-requires c = record {
+pub leaf_part-requires : goal.leaf_part-requires
+leaf_part-requires c = record {
   spliced = c.requires.spliced;
   goods = c.requires.goods;
   rises = c.requires.rises;
@@ -17,8 +17,8 @@ leaf-part-requires c = record {
 
 pub returns-then-cost-le496 : goal.returns-then-cost-le496
 returns-then-cost-le496 c =
-    fits_one (cells_in c.args.list.now) c.requires.goods c.len-n.result _ (omega (arith, c.cost.ensures.value)) c.len-n.ensures c.leaf-part.ensures
+    fits_one (cells_in c.args.list.now) c.requires.goods c.len-n.result _ (omega (arith, c.cost.ensures.value)) c.len-n.ensures c.leaf_part.ensures
 
 pub returns : goal.returns
 returns c =
-    fits_two (cells_in c.args.list.now) c.requires.goods c.overfull-cut-at.result c.len-n.result _ _ _ (omega (arith, c.cost.ensures.value)) c.overfull-cut-at.ensures.parts c.overfull-cut-at.ensures.value c.len-n.ensures c.leaf-part-2.ensures c.cut-separator.ensures c.leaf-part-3.ensures
+    fits_two (cells_in c.args.list.now) c.requires.goods c.overfull_cut-at.result c.len-n.result _ _ _ (omega (arith, c.cost.ensures.value)) c.overfull_cut-at.ensures.parts c.overfull_cut-at.ensures.value c.len-n.ensures c.leaf_part-2.ensures c.cut_separator.ensures c.leaf_part-3.ensures

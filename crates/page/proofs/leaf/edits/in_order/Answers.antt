@@ -8,12 +8,12 @@ pub returns-then-n-eq0 : goal.returns-then-n-eq0
 returns-then-n-eq0 c =
     sym (first_empty (cells_of c.args.left.now) (cells_of c.args.right.now) (omega arith) c.known-2.ensures.rises)
 
-pub returns-then-count-of-eq0 : goal.returns-then-count-of-eq0
-returns-then-count-of-eq0 c =
+pub returns-then-count_of-eq0 : goal.returns-then-count_of-eq0
+returns-then-count_of-eq0 c =
     sym (second_empty (cells_of c.args.left.now) (cells_of c.args.right.now) (omega arith) c.known.ensures.rises)
 
 pub returns : goal.returns
 returns c =
     let xs = cells_of c.args.left.now in
     let ys = cells_of c.args.right.now in
-    sym (both_rise xs ys c.count-of-n.result c.count-of-n.ensures (omega arith) (omega arith) c.known.ensures.rises c.known-2.ensures.rises ∙ less_at c.key-at-last.ensures c.key-at-first.ensures c.key-less.ensures)
+    sym (both_rise xs ys c.count_of-n.result c.count_of-n.ensures (omega arith) (omega arith) c.known.ensures.rises c.known-2.ensures.rises ∙ less_at c.key_at-last.ensures c.key_at-first.ensures c.key_less.ensures)

@@ -7,8 +7,8 @@ use Rattle.page.proofs.Parts.{every_between, rising_between, map_between}
 use Rattle.page.proofs.Sounds.{page_sound}
 use Rattle.page.proofs.leaf.edits.leaf_part.Goals as goal
 
-pub invariant-of-result : goal.invariant-of-result
-invariant-of-result c =
+pub invariant_of-result : goal.invariant_of-result
+invariant_of-result c =
     let xs = cells_in c.args.list.now in
     let i = c.args.from in
     let j = c.args.to in (

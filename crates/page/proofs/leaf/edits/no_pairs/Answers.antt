@@ -6,9 +6,9 @@ use Rattle.page.proofs.Pages.{cells_are}
 use Rattle.page.proofs.Sounds.{page_sound}
 use Rattle.page.proofs.leaf.edits.no_pairs.Goals as goal
 
-pub invariant-of-result : goal.invariant-of-result
+pub invariant_of-result : goal.invariant_of-result
 unfolding rising
-invariant-of-result c =
+invariant_of-result c =
     let b = c.start.new.page in (
       page_sound leaf_rules (left_of b) _ (cells_of b) c.finish.new.page c.finish.ensures.value c.finish.ensures.shows
           (ap (every leaf_good) c.start.ensures.cells) (ap (λ l. eqb l 0) c.start.ensures.left) (ap (rising leaf_key) c.start.ensures.cells),

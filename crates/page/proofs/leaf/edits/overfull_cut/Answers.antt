@@ -7,6 +7,6 @@ pub returns : goal.returns
 returns c =
     let xs = cells_in c.args.list.now in
     record {
-      value = c.leaf-cut.ensures ∙ sym (fair_pairs 0 xs c.requires.goods);
-      parts = cut_fits xs c.leaf-cut.result c.requires.goods c.requires.overfull c.requires.few c.leaf-cut.ensures;
+      value = c.leaf_cut.ensures ∙ sym (fair_pairs 0 xs c.requires.goods);
+      parts = cut_fits xs c.leaf_cut.result c.requires.goods c.requires.overfull c.requires.few c.leaf_cut.ensures;
     }

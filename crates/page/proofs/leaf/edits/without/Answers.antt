@@ -8,8 +8,8 @@ use Rattle.page.proofs.OnePage.{goods_kept, rises_again, cost_kept}
 use Rattle.page.proofs.Puts.{cells_as_pairs}
 use Rattle.page.proofs.leaf.edits.without.Goals as goal
 
-pub overflow-add-list : goal.overflow-add-list
-overflow-add-list c = omega (arith, length-map (cells_of c.args.page.now) pair_of, c.requires.within, c.known.ensures.laid.room)
+pub overflow_add-list : goal.overflow_add-list
+overflow_add-list c = omega (arith, length-map (cells_of c.args.page.now) pair_of, c.requires.within, c.known.ensures.laid.room)
 
 pub len-n-requires : goal.len-n-requires
 len-n-requires c = record {
@@ -20,8 +20,8 @@ len-n-requires c = record {
   small = omega (arith, cost_none);
 }
 
-pub leaf-part-requires : goal.leaf-part-requires
-leaf-part-requires c =
+pub leaf_part-requires : goal.leaf_part-requires
+leaf_part-requires c =
     let xs = cells_of c.args.page.now in
     record {
       spliced = record {
@@ -42,4 +42,4 @@ pub returns : goal.returns
 returns c =
     let xs = cells_of c.args.page.now in
     let ys = take c.args.i xs ++ drop (c.args.i + 1) xs in
-    c.leaf-part.ensures ∙ (between_to_end (map pair_of ys) 0 c.len-n.result (omega (arith, length-map ys pair_of, c.len-n.ensures)) ∙ cells_as_pairs xs [] [] c.args.i (c.args.i + 1) refl)
+    c.leaf_part.ensures ∙ (between_to_end (map pair_of ys) 0 c.len-n.result (omega (arith, length-map ys pair_of, c.len-n.ensures)) ∙ cells_as_pairs xs [] [] c.args.i (c.args.i + 1) refl)
