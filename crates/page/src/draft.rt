@@ -12,7 +12,7 @@ use device::{PAGE_SIZE, Page};
 
 // The page of no cells.
 pub(crate) fn start<C: Cell>(page: &mut Page, leftmost: u32)
-    ensures laid { Laid rules.kind page.new }
+    ensures laid { Laid C.rules.kind page.new }
     ensures left { left_of page.new ≡ leftmost }
     ensures sum { sum_of page.new ≡ 0 }
     ensures cells { cells_of page.new ≡ [] }
@@ -38,7 +38,7 @@ pub(crate) fn leftmost_of(page: &Page) -> u32
 
 // Where the lowest cell begins.
 pub(crate) fn lowest_of<C: Cell>(page: &Page) -> usize
-    requires { Laid rules.kind page.now }
+    requires { Laid C.rules.kind page.now }
     ensures { result + length (bodies (cells_of page.now)) ≡ 512 }
 {
     read16(page, 4)
@@ -46,9 +46,9 @@ pub(crate) fn lowest_of<C: Cell>(page: &Page) -> usize
 
 // One more cell, for which there is room.
 pub(crate) fn append<C: Cell>(page: &mut Page, body: &[u8])
-    requires laid { Laid rules.kind page.old }
+    requires laid { Laid C.rules.kind page.old }
     requires room { cost (cells_of page.old) + 2 + length body.now ≤ 496 }
-    ensures laid { Laid rules.kind page.new }
+    ensures laid { Laid C.rules.kind page.new }
     ensures left { left_of page.new ≡ left_of page.old }
     ensures sum { sum_of page.new ≡ sum_of page.old }
     ensures cells { cells_of page.new ≡ cells_of page.old ++ body.now ∷ [] }
@@ -75,7 +75,7 @@ pub(crate) fn edge(page: &Page, i: usize) -> usize
 }
 
 pub(crate) fn cell_at<C: Cell>(page: &Page, i: usize) -> &[u8]
-    requires laid { Laid rules.kind page.now }
+    requires laid { Laid C.rules.kind page.now }
     requires within { i < length (cells_of page.now) }
     ensures { result.now ≡ slice_index_or (cells_of page.now) i [] }
 {
@@ -86,7 +86,7 @@ pub(crate) fn cell_at<C: Cell>(page: &Page, i: usize) -> &[u8]
 
 // The bytes that the cells from i up to j cost.
 pub(crate) fn cost_between<C: Cell>(page: &Page, i: usize, j: usize) -> usize
-    requires laid { Laid rules.kind page.now }
+    requires laid { Laid C.rules.kind page.now }
     requires ordered { i ≤ j }
     requires within { j ≤ length (cells_of page.now) }
     ensures value { result ≡ cost (between i j (cells_of page.now)) }
@@ -96,19 +96,19 @@ pub(crate) fn cost_between<C: Cell>(page: &Page, i: usize, j: usize) -> usize
 }
 
 pub(crate) fn key_at<C: Cell>(page: &Page, i: usize) -> &[u8]
-    requires laid { Laid rules.kind page.now }
-    requires goods { every rules.good (cells_of page.now) ≡ true }
+    requires laid { Laid C.rules.kind page.now }
+    requires goods { every C.rules.good (cells_of page.now) ≡ true }
     requires within { i < length (cells_of page.now) }
-    ensures { result.now ≡ rules.key (slice_index_or (cells_of page.now) i []) }
+    ensures { result.now ≡ C.rules.key (slice_index_or (cells_of page.now) i []) }
 {
     C::key_of(cell_at::<C>(page, i))
 }
 
 // Writes the checksum, when all cells are there.
 pub(crate) fn finish<C: Cell>(page: &mut Page)
-    requires { Laid rules.kind page.old }
-    ensures value { page.new ≡ page_of rules.kind (left_of page.old) (cells_of page.old) }
-    ensures shows { Shows rules.kind page.new (left_of page.old) (crc_of (laid_out rules.kind (left_of page.old) 0 (cells_of page.old))) (cells_of page.old) }
+    requires { Laid C.rules.kind page.old }
+    ensures value { page.new ≡ page_of C.rules.kind (left_of page.old) (cells_of page.old) }
+    ensures shows { Shows C.rules.kind page.new (left_of page.old) (crc_of (laid_out C.rules.kind (left_of page.old) 0 (cells_of page.old))) (cells_of page.old) }
 {
     seal(page);
 }

@@ -23,14 +23,14 @@ fn loose(list: &Splice) -> usize
 }
 
 pub(crate) fn len<C: Cell>(list: &Splice) -> usize
-    requires { Spliced rules.kind list.now }
+    requires { Spliced C.rules.kind list.now }
     ensures { result ≡ length (cells_in list.now) }
 {
     list.keep + loose(list) + (count_of(list.back) - list.skip)
 }
 
 pub(crate) fn body<'a, C: Cell>(list: &Splice<'a>, i: usize) -> &'a [u8]
-    requires spliced { Spliced rules.kind list.now }
+    requires spliced { Spliced C.rules.kind list.now }
     requires within { i < length (cells_in list.now) }
     ensures { result.now ≡ slice_index_or (cells_in list.now) i [] }
 {
@@ -52,7 +52,7 @@ pub(crate) fn body<'a, C: Cell>(list: &Splice<'a>, i: usize) -> &'a [u8]
 
 // The bytes that the list costs.
 pub(crate) fn cost<C: Cell>(list: &Splice) -> usize
-    requires { Spliced rules.kind list.now }
+    requires { Spliced C.rules.kind list.now }
     ensures value { result ≡ cost (cells_in list.now) }
     ensures bound { result ≤ 1188 }
 {
@@ -66,11 +66,11 @@ pub(crate) fn cost<C: Cell>(list: &Splice) -> usize
 
 // The page of the cells from one place up to another.
 pub(crate) fn build<C: Cell>(list: &Splice, from: usize, to: usize, leftmost: u32, page: &mut Page)
-    requires spliced { Spliced rules.kind list.now }
+    requires spliced { Spliced C.rules.kind list.now }
     requires ordered { from ≤ to }
     requires within { to ≤ length (cells_in list.now) }
     requires room { cost (between from to (cells_in list.now)) ≤ 496 }
-    ensures laid { Laid rules.kind page.new }
+    ensures laid { Laid C.rules.kind page.new }
     ensures left { left_of page.new ≡ leftmost }
     ensures sum { sum_of page.new ≡ 0 }
     ensures cells { cells_of page.new ≡ between from to (cells_in list.now) }
@@ -83,7 +83,7 @@ pub(crate) fn build<C: Cell>(list: &Splice, from: usize, to: usize, leftmost: u3
 
 // How many cells an overfull leaf keeps: the cut whose larger part is cheapest.
 pub(crate) fn leaf_cut<C: Cell>(list: &Splice) -> usize
-    requires { Spliced rules.kind list.now }
+    requires { Spliced C.rules.kind list.now }
     ensures { result ≡ fair body_cost 0 (cells_in list.now) }
 {
     let n = len::<C>(list);
@@ -102,7 +102,7 @@ pub(crate) fn leaf_cut<C: Cell>(list: &Splice) -> usize
 
 // Which cell an overfull branch gives up: the first at which it and those before it cost more than half.
 pub(crate) fn branch_cut<C: Cell>(list: &Splice) -> usize
-    requires { Spliced rules.kind list.now }
+    requires { Spliced C.rules.kind list.now }
     ensures { result ≡ middle body_cost (total body_cost (cells_in list.now)) 0 (cells_in list.now) }
 {
     let n = len::<C>(list);
@@ -119,12 +119,12 @@ pub(crate) fn branch_cut<C: Cell>(list: &Splice) -> usize
 
 // The page of the cells from one place up to another, with its checksum.
 pub(crate) fn part<C: Cell>(list: &Splice, from: usize, to: usize, leftmost: u32) -> Page
-    requires spliced { Spliced rules.kind list.now }
+    requires spliced { Spliced C.rules.kind list.now }
     requires ordered { from ≤ to }
     requires within { to ≤ length (cells_in list.now) }
     requires room { cost (between from to (cells_in list.now)) ≤ 496 }
-    ensures value { result ≡ page_of rules.kind leftmost (between from to (cells_in list.now)) }
-    ensures shows { Shows rules.kind result leftmost (crc_of (laid_out rules.kind leftmost 0 (between from to (cells_in list.now)))) (between from to (cells_in list.now)) }
+    ensures value { result ≡ page_of C.rules.kind leftmost (between from to (cells_in list.now)) }
+    ensures shows { Shows C.rules.kind result leftmost (crc_of (laid_out C.rules.kind leftmost 0 (between from to (cells_in list.now)))) (between from to (cells_in list.now)) }
 {
     let mut page = [0; PAGE_SIZE];
     build::<C>(list, from, to, leftmost, &mut page);

@@ -9,10 +9,10 @@ use device::Page;
 // What holds of a page that reading accepts. It changes nothing: a caller that has such a page learns
 // these facts.
 pub(crate) fn known<C: Cell>(page: &Page)
-    requires { sound rules page.now ≡ true }
-    ensures laid { Laid rules.kind page.now }
-    ensures goods { every rules.good (cells_of page.now) ≡ true }
-    ensures rises { rising rules.key (cells_of page.now) ≡ true }
+    requires { sound C.rules page.now ≡ true }
+    ensures laid { Laid C.rules.kind page.now }
+    ensures goods { every C.rules.good (cells_of page.now) ≡ true }
+    ensures rises { rising C.rules.key (cells_of page.now) ≡ true }
 {
     let _ = count_of(page);
 }

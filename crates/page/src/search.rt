@@ -10,10 +10,10 @@ use device::Page;
 
 // How many of the page's keys are at most the one sought: the place of the first greater one.
 pub(crate) fn place_above<C: Cell>(page: &Page, sought: &[u8]) -> usize
-    requires laid { Laid rules.kind page.now }
-    requires goods { every rules.good (cells_of page.now) ≡ true }
-    requires rises { rising rules.key (cells_of page.now) ≡ true }
-    ensures { result ≡ up_to rules.key sought.now (cells_of page.now) }
+    requires laid { Laid C.rules.kind page.now }
+    requires goods { every C.rules.good (cells_of page.now) ≡ true }
+    requires rises { rising C.rules.key (cells_of page.now) ≡ true }
+    ensures { result ≡ up_to C.rules.key sought.now (cells_of page.now) }
 {
     let mut low = 0;
     let mut high = count_of(page);

@@ -31,7 +31,7 @@ fn is_zero(page: &Page, from: usize, to: usize) -> bool
 fn is_packed<C: Cell>(page: &Page, n: usize) -> bool
     requires count { n ≡ length (cells_of page.now) }
     requires few { n ≤ 248 }
-    ensures { MatchBool result (Packed rules page.now n) (layout rules page.now ≡ false) }
+    ensures { MatchBool result (Packed C.rules page.now n) (layout C.rules page.now ≡ false) }
 {
     for i in 0..n {
         let end = edge(page, i);
@@ -51,7 +51,7 @@ fn is_packed<C: Cell>(page: &Page, n: usize) -> bool
 
 // Whether the header says what the cells say.
 fn has_header<C: Cell>(page: &Page, lowest: usize) -> bool
-    ensures { Decides result (Headed rules.kind page.now lowest) }
+    ensures { Decides result (Headed C.rules.kind page.now lowest) }
 {
     page[0] == C::kind_byte()
         && page[1] == 0
@@ -62,7 +62,7 @@ fn has_header<C: Cell>(page: &Page, lowest: usize) -> bool
 
 // Whether the bytes are the page of the cells that they say, with whatever checksum.
 pub(crate) fn is_laid_out<C: Cell>(page: &Page) -> bool
-    ensures { result ≡ layout rules page.now }
+    ensures { result ≡ layout C.rules page.now }
 {
     let n = count_of(page);
     if n > 248 {
@@ -83,9 +83,9 @@ pub(crate) fn is_laid_out<C: Cell>(page: &Page) -> bool
 
 // Whether each key is below the next.
 fn is_rising<C: Cell>(page: &Page) -> bool
-    requires laid { Laid rules.kind page.now }
-    requires goods { every rules.good (cells_of page.now) ≡ true }
-    ensures { result ≡ rising rules.key (cells_of page.now) }
+    requires laid { Laid C.rules.kind page.now }
+    requires goods { every C.rules.good (cells_of page.now) ≡ true }
+    ensures { result ≡ rising C.rules.key (cells_of page.now) }
 {
     let n = count_of(page);
     for i in 1..n {
@@ -98,7 +98,7 @@ fn is_rising<C: Cell>(page: &Page) -> bool
 
 // The first fault of the page, its checksum left out.
 pub(crate) fn shape_fault<C: Cell>(page: &Page) -> Option<Cause>
-    ensures { result ≡ shape_fault rules page.now }
+    ensures { result ≡ shape_fault C.rules page.now }
 {
     if page[0] != C::kind_byte() {
         return Some(Cause::Kind);
@@ -113,7 +113,7 @@ pub(crate) fn shape_fault<C: Cell>(page: &Page) -> Option<Cause>
 }
 
 pub(crate) fn first_fault<C: Cell>(page: &Page) -> Option<Cause>
-    ensures { result ≡ first_fault rules page.now }
+    ensures { result ≡ first_fault C.rules page.now }
 {
     if !is_sealed(page) {
         return Some(Cause::Checksum);
