@@ -11,11 +11,10 @@ pub invariant_of-result : goal.invariant_of-result
 invariant_of-result c =
     let xs = cells_in c.args.list.now in
     let i = c.args.from in
-    let j = c.args.to in (
-      page_sound leaf_rules 0 _ (between i j xs) c.part.result c.part.ensures.value c.part.ensures.shows
-          (every_between leaf_good i j xs c.requires.goods) refl (rising_between leaf_key i j xs c.requires.rises),
-      tt,
-    )
+    let j = c.args.to in record {
+      sound = page_sound leaf_rules 0 _ (between i j xs) c.part.result c.part.ensures.value c.part.ensures.shows
+          (every_between leaf_good i j xs c.requires.goods) refl (rising_between leaf_key i j xs c.requires.rises);
+    }
 
 pub returns : goal.returns
 returns c =
