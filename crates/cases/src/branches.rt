@@ -52,10 +52,10 @@ fn children_and_separators(rt: HostRuntime) -> Result<(), Fail> {
 fn bytes_of_a_branch(rt: HostRuntime) -> Result<(), Fail> {
     let branch = three_children()?;
     let bytes = branch.bytes();
-    assert!(rt; &bytes[0..12] == &[2, 0, 2, 0, 0xed, 1, 0, 0, 5, 0, 0, 0]);
-    assert!(rt; &bytes[12..16] == &[0x5d, 0x78, 0x5c, 0xaf]);
-    assert!(rt; &bytes[16..20] == &[0xf5, 1, 0xed, 1]);
-    assert!(rt; &bytes[493..501] == &[2, 0, 9, 0, 0, 0, 0x74, 0x72]);
+    assert!(rt; &bytes[0..12] == [2, 0, 2, 0, 0xed, 1, 0, 0, 5, 0, 0, 0].as_slice());
+    assert!(rt; &bytes[12..16] == [0x5d, 0x78, 0x5c, 0xaf].as_slice());
+    assert!(rt; &bytes[16..20] == [0xf5, 1, 0xed, 1].as_slice());
+    assert!(rt; &bytes[493..501] == [2, 0, 9, 0, 0, 0, 0x74, 0x72].as_slice());
     assert!(rt; BranchPage::read(bytes).is_ok());
     match LeafPage::read(bytes) {
         Ok(_) => Err(Fail::new("read as a leaf")),
@@ -110,7 +110,7 @@ fn overfull_branch_gives_up_its_middle(rt: HostRuntime) -> Result<(), Fail> {
         Grown::One(_) => Err(Fail::new("not cut")),
         Grown::Two(left, separator, right) => {
             assert_eq!(rt; left.len(), 3);
-            assert!(rt; separator.as_slice() == &[4; 64]);
+            assert!(rt; separator.as_slice() == [4; 64].as_slice());
             assert_eq!(rt; right.len(), 3);
             assert_eq!(rt; right.child(0), Some(5));
             Ok(())

@@ -26,41 +26,40 @@ fn call<D: Device>(device: &mut D, turn: u64) -> Result<(), DeviceFault> {
 
 // Power lasts for the calls before the limit, and for none from there on. Calls outside are refused as such all
 // along, and none of them counts.
-fn cut_at<D: PowerCycle>(rt: &impl Abort, device: &mut D, limit: u64) -> Result<(), Fail> {
+fn cut_at<D: PowerCycle>(rt: &impl Abort, device: &mut D, limit: u64, when: &str) {
     let pages = device.pages();
     let mut buffer = [9; 512];
     for turn in 1..12u64 {
-        assert_eq!(rt; device.write(pages, &[7; 512]), OUTSIDE);
-        assert_eq!(rt; device.read(u32::MAX, &mut buffer), OUTSIDE);
+        assert_eq!(rt; device.write(pages, &[7; 512]), OUTSIDE, "{when}");
+        assert_eq!(rt; device.read(u32::MAX, &mut buffer), OUTSIDE, "{when}");
         let answer = call(device, turn);
         if limit == 0 || turn < limit {
-            assert_eq!(rt; answer, Ok(()));
+            assert_eq!(rt; answer, Ok(()), "{when}");
         } else {
-            assert_eq!(rt; answer, OFF);
+            assert_eq!(rt; answer, OFF, "{when}");
             buffer = [9; 512];
-            assert_eq!(rt; device.read(1, &mut buffer), OFF);
+            assert_eq!(rt; device.read(1, &mut buffer), OFF, "{when}");
             check_filled(rt, &buffer, 0);
-            assert_eq!(rt; device.sync(), OFF);
+            assert_eq!(rt; device.sync(), OFF, "{when}");
         }
     }
-    Ok(())
 }
 
 // Around each limit, and again after each of two power returns in a row.
-fn cut_at_each<D: PowerCycle>(rt: &impl Abort, device: &mut D, limit: u64) -> Result<(), Fail> {
-    cut_at(rt, device, limit).note("made")?;
+fn cut_at_each<D: PowerCycle>(rt: &impl Abort, device: &mut D, limit: u64) {
+    cut_at(rt, device, limit, "made");
     device.power_return();
-    cut_at(rt, device, limit).note("power returned")?;
+    cut_at(rt, device, limit, "power returned");
     device.power_return();
     device.power_return();
-    cut_at(rt, device, limit).note("power returned twice")
+    cut_at(rt, device, limit, "power returned twice");
 }
 
 #[test]
 fn write_through_is_cut_at_each_limit(rt: HostRuntime) -> Result<(), Fail> {
     for limit in 0..13u64 {
         let mut device = WriteThrough::new(rt.alloc(), 3, limit)?;
-        cut_at_each(&rt, &mut device, limit)?;
+        cut_at_each(&rt, &mut device, limit);
     }
     Ok(())
 }
@@ -69,7 +68,7 @@ fn write_through_is_cut_at_each_limit(rt: HostRuntime) -> Result<(), Fail> {
 fn write_behind_is_cut_at_each_limit(rt: HostRuntime) -> Result<(), Fail> {
     for limit in 0..13u64 {
         let mut device = WriteBehind::new(rt.alloc(), 3, limit)?;
-        cut_at_each(&rt, &mut device, limit)?;
+        cut_at_each(&rt, &mut device, limit);
     }
     Ok(())
 }

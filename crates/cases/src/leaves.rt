@@ -23,7 +23,7 @@ fn empty_leaf(rt: HostRuntime) {
     assert_eq!(rt; bytes[0], 1);
     assert_eq!(rt; bytes[4], 0x00);
     assert_eq!(rt; bytes[5], 0x02);
-    assert!(rt; &bytes[12..16] == &[0xa6, 0x84, 0x00, 0x15]);
+    assert!(rt; &bytes[12..16] == [0xa6, 0x84, 0x00, 0x15].as_slice());
 }
 
 #[test]
@@ -36,7 +36,7 @@ fn one_pair(rt: HostRuntime) -> Result<(), Fail> {
     assert_eq!(rt; bytes[509], 0x01);
     assert_eq!(rt; bytes[510], 0x6b);
     assert_eq!(rt; bytes[511], 0x76);
-    assert!(rt; &bytes[12..16] == &[0x60, 0x53, 0x9d, 0x43]);
+    assert!(rt; &bytes[12..16] == [0x60, 0x53, 0x9d, 0x43].as_slice());
     assert_eq!(rt; leaf.find(b"k"), Some(0));
     assert_eq!(rt; leaf.find(b"j"), None);
     assert_eq!(rt; leaf.above(b"j"), 0);
@@ -67,7 +67,7 @@ fn three_large_cells_are_cut_after_the_first(rt: HostRuntime) -> Result<(), Fail
         Grown::Two(left, separator, right) => {
             assert_eq!(rt; left.len(), 1);
             assert_eq!(rt; right.len(), 2);
-            assert!(rt; separator.as_slice() == &[2]);
+            assert!(rt; separator.as_slice() == [2].as_slice());
             Ok(())
         }
     }

@@ -24,12 +24,12 @@ fn seventh() -> Meta {
 #[test]
 fn bytes_of_metas(rt: HostRuntime) {
     let bytes = first().encode();
-    assert!(rt; &bytes[0..12] == &[3, 1, 0, 0, 16, 0, 0, 0, 2, 0, 0, 0]);
-    assert!(rt; &bytes[12..16] == &[0xd2, 0x2a, 0x92, 0x94]);
+    assert!(rt; &bytes[0..12] == [3, 1, 0, 0, 16, 0, 0, 0, 2, 0, 0, 0].as_slice());
+    assert!(rt; &bytes[12..16] == [0xd2, 0x2a, 0x92, 0x94].as_slice());
     assert_eq!(rt; bytes[28], 1);
     let bytes = seventh().encode();
-    assert!(rt; &bytes[4..16] == &[0, 4, 0, 0, 0xff, 3, 0, 0, 0xe5, 0x8d, 0x58, 0x2d]);
-    assert!(rt; &bytes[16..29] == &[7, 0, 0, 0, 0, 0, 0, 0, 0x2c, 1, 0, 0, 7]);
+    assert!(rt; &bytes[4..16] == [0, 4, 0, 0, 0xff, 3, 0, 0, 0xe5, 0x8d, 0x58, 0x2d].as_slice());
+    assert!(rt; &bytes[16..29] == [7, 0, 0, 0, 0, 0, 0, 0, 0x2c, 1, 0, 0, 7].as_slice());
 }
 
 #[test]

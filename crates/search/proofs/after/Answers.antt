@@ -8,6 +8,6 @@ use Rattle.search.proofs.after.Goals as goal
 pub returns : goal.returns
 returns g c =
     let k = c.args.key.now in
-    finds_in_sound c.args.root c.args.height (find_next k) (first_above k) c.after-from.result
+    finds_in_sound c.args.root c.args.height (find_next k) (first_above k) c.after_from.result
     (λ d t so. after_finds_the_next_pair_lem (as_tree d t) so k)
-    c.after-from.ensures
+    c.after_from.ensures

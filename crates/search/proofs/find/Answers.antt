@@ -11,6 +11,6 @@ use Rattle.search.proofs.find.Goals as goal
 pub returns : goal.returns
 returns g c =
     let k = c.args.key.now in
-    finds_in_sound c.args.root c.args.height (find_pair k) (pair_with k) c.find-from.result
+    finds_in_sound c.args.root c.args.height (find_pair k) (pair_with k) c.find_from.result
     (λ d t so. ap (option_map (pair k)) (search_finds_the_pair_lem (as_tree d t) so k))
-    c.find-from.ensures
+    c.find_from.ensures
