@@ -1,4 +1,4 @@
 use Rattle.search.proofs.descent.+after_from.Given as goal
 
-abbrev pub decreases-after-from : goal.decreases-after-from
-decreases-after-from g l = l.height
+abbrev pub decreases-after_from : goal.decreases-after_from
+decreases-after_from g l = l.height

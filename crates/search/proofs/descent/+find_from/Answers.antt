@@ -6,26 +6,26 @@ use Rattle.search.proofs.Parts.{picked_length}
 use Rattle.search.proofs.Loading.{leaf_refused, branch_refused, load_leaf, found_there}
 use Rattle.search.proofs.descent.+find_from.Goals as goal
 
-pub returns-in-err-leaf : goal.returns-in-err-leaf
-returns-in-err-leaf g t c =
-    let q = err_from_is_err_and c.from-residual.result c.from-residual.ensures.1 in
+pub returns-in_err-leaf : goal.returns-in_err-leaf
+returns-in_err-leaf g t c =
+    let q = err_from_is_err_and c.from_residual.result c.from_residual.ensures.1 in
     rw (q.1, q.2)
-    (leaf_refused c.args.page c.args.height (find_pair c.args.key.now) _ c.if-height-eq0.true c.in-err-leaf.ensures)
+    (leaf_refused c.args.page c.args.height (find_pair c.args.key.now) _ c.if-height-eq0.true c.in_err-leaf.ensures)
 
 pub returns-then-height-eq0 : goal.returns-then-height-eq0
 returns-then-height-eq0 g t c =
-    load_leaf c.args.page c.args.height (find_pair c.args.key.now) c.in-ok-leaf.leaf c.find-in.result c.if-height-eq0.true c.in-ok-leaf.ensures c.find-in.ensures
+    load_leaf c.args.page c.args.height (find_pair c.args.key.now) c.in_ok-leaf.leaf c.find_in.result c.if-height-eq0.true c.in_ok-leaf.ensures c.find_in.ensures
 
-pub returns-in-err-branch : goal.returns-in-err-branch
-returns-in-err-branch g t c =
-    let q = err_from_is_err_and c.from-residual-in-err-branch.result c.from-residual-in-err-branch.ensures.1 in
+pub returns-in_err-branch : goal.returns-in_err-branch
+returns-in_err-branch g t c =
+    let q = err_from_is_err_and c.from_residual-in_err-branch.result c.from_residual-in_err-branch.ensures.1 in
     rw (q.1, q.2)
-    (branch_refused c.args.page c.args.height (find_pair c.args.key.now) _ c.if-height-eq0.false c.in-err-branch.ensures)
+    (branch_refused c.args.page c.args.height (find_pair c.args.key.now) _ c.if-height-eq0.false c.in_err-branch.ensures)
 
-pub child-of-child-requires : goal.child-of-child-requires
-child-of-child-requires g t c =
-    omega (arith, c.place.ensures, picked_length c.args.key.now (branch_in c.in-ok-branch.branch.bytes).rest)
+pub child_of-child-requires : goal.child_of-child-requires
+child_of-child-requires g t c =
+    omega (arith, c.place.ensures, picked_length c.args.key.now (branch_in c.in_ok-branch.branch.bytes).rest)
 
 pub returns : goal.returns
 returns g t c =
-    found_there c.in-ok-branch.branch c.args.page c.args.height c.place.result c.child-of-child.result c.args.key.now c.if-height-eq0.false c.in-ok-branch.ensures c.place.ensures c.child-of-child.ensures c.find-from.result c.find-from.ensures
+    found_there c.in_ok-branch.branch c.args.page c.args.height c.place.result c.child_of-child.result c.args.key.now c.if-height-eq0.false c.in_ok-branch.ensures c.place.ensures c.child_of-child.ensures c.find_from.result c.find_from.ensures

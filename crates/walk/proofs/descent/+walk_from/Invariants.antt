@@ -5,8 +5,8 @@ use Rattle.walk.specs.Spots.{low_of, high_of}
 use Rattle.walk.proofs.Steps.{Going, below}
 use Rattle.walk.proofs.descent.+walk_from.Given as goal
 
-abbrev pub decreases-walk-from : goal.decreases-walk-from
-decreases-walk-from g l = l.height
+abbrev pub decreases-walk_from : goal.decreases-walk_from
+decreases-walk_from g l = l.height
 
 abbrev pub invariant-loop-child : goal.invariant-loop-child
 invariant-loop-child g l =

@@ -3,27 +3,27 @@ use Rattle.std.proofs.lemmas.Result.{err_from_is_err_and}
 use Rattle.walk.proofs.Trees.{room_tells, tree_refused, tree_found}
 use Rattle.walk.proofs.inspection.calls.recover.Goals as goal
 
-pub walk-tree-requires : goal.walk-tree-requires
-walk-tree-requires g c = record {
-  small = (room_tells c.pages-size.result (sym c.has-room.ensures ∙ c.if-not-has-room.false)).1;
-  rooted = rw c.in-Some.is at c.in-ok-meta.ensures.rooted;
+pub walk_tree-requires : goal.walk_tree-requires
+walk_tree-requires g c = record {
+  small = (room_tells c.pages-size.result (sym c.has_room.ensures ∙ c.if-not-has_room.false)).1;
+  rooted = rw c.in-Some.is at c.in_ok-meta.ensures.rooted;
 }
 
-pub returns-in-err-marks : goal.returns-in-err-marks
-returns-in-err-marks g c =
-    let q = err_from_is_err_and c.from-residual-in-err-marks.result c.from-residual-in-err-marks.ensures.1 in
+pub returns-in_err-marks : goal.returns-in_err-marks
+returns-in_err-marks g c =
+    let q = err_from_is_err_and c.from_residual-in_err-marks.result c.from_residual-in_err-marks.ensures.1 in
     rw (q.1, q.2)
     (record {
       fits = tt;
       found =
-          tree_refused (g.R.Reader.past c.args.reader.now) (g.R.Reader.medium c.args.reader.now) (g.R.Reader.past c.newest.new.reader) (g.R.Reader.medium c.newest.new.reader) c.pages-size.result c.pages-size.ensures (sym c.has-room.ensures ∙ c.if-not-has-room.false)
-          c.in-Some.meta (rw c.in-Some.is at c.in-ok-meta.ensures.reads) _ _ _ c.in-err-marks.ensures;
+          tree_refused (g.R.Reader.past c.args.reader.now) (g.R.Reader.medium c.args.reader.now) (g.R.Reader.past c.newest.new.reader) (g.R.Reader.medium c.newest.new.reader) c.pages-size.result c.pages-size.ensures (sym c.has_room.ensures ∙ c.if-not-has_room.false)
+          c.in-Some.meta (rw c.in-Some.is at c.in_ok-meta.ensures.reads) _ _ _ c.in_err-marks.ensures;
     })
 
 pub returns : goal.returns
 returns g c = record {
   fits = search rules;
   found =
-      tree_found (g.R.Reader.past c.args.reader.now) (g.R.Reader.medium c.args.reader.now) (g.R.Reader.past c.newest.new.reader) (g.R.Reader.medium c.newest.new.reader) c.pages-size.result c.pages-size.ensures (sym c.has-room.ensures ∙ c.if-not-has-room.false)
-      c.in-Some.meta (rw c.in-Some.is at c.in-ok-meta.ensures.reads) _ _ c.in-ok-marks.marks c.in-ok-marks.ensures;
+      tree_found (g.R.Reader.past c.args.reader.now) (g.R.Reader.medium c.args.reader.now) (g.R.Reader.past c.newest.new.reader) (g.R.Reader.medium c.newest.new.reader) c.pages-size.result c.pages-size.ensures (sym c.has_room.ensures ∙ c.if-not-has_room.false)
+      c.in-Some.meta (rw c.in-Some.is at c.in_ok-meta.ensures.reads) _ _ c.in_ok-marks.marks c.in_ok-marks.ensures;
 }

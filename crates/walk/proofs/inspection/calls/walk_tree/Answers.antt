@@ -4,23 +4,23 @@ use Rattle.paged.specs.Walk.{elem}
 use Rattle.walk.proofs.Trees.{tree_broken, tree_miscounted, tree_walked}
 use Rattle.walk.proofs.inspection.calls.walk_tree.Goals as goal
 
-pub walk-from-requires : goal.walk-from-requires
+pub walk_from-requires : goal.walk_from-requires
 unfolding elem
-walk-from-requires g c = record {
+walk_from-requires g c = record {
   small = c.requires.small;
   inside = c.requires.rooted.high;
   unmet = c.new-met.ensures c.args.meta.now.root (omega (arith, c.requires.rooted.high, c.requires.small));
 }
 
-pub returns-in-err-pairs : goal.returns-in-err-pairs
-returns-in-err-pairs g c =
-    let q = err_from_is_err_and c.from-residual.result c.from-residual.ensures.1 in
-    rw (q.1, q.2) (tree_broken _ _ _ _ c.args.size c.args.meta.now _ _ c.new-met.ensures _ c.in-err-pairs.ensures)
+pub returns-in_err-pairs : goal.returns-in_err-pairs
+returns-in_err-pairs g c =
+    let q = err_from_is_err_and c.from_residual.result c.from_residual.ensures.1 in
+    rw (q.1, q.2) (tree_broken _ _ _ _ c.args.size c.args.meta.now _ _ c.new-met.ensures _ c.in_err-pairs.ensures)
 
 pub returns-then-pairs-meta : goal.returns-then-pairs-meta
 returns-then-pairs-meta g c =
-    rw c.damaged.ensures (tree_miscounted _ _ _ _ c.args.size c.args.meta.now _ _ c.new-met.ensures _ c.if-pairs-meta.true c.in-ok-pairs.ensures)
+    rw c.damaged.ensures (tree_miscounted _ _ _ _ c.args.size c.args.meta.now _ _ c.new-met.ensures _ c.if-pairs-meta.true c.in_ok-pairs.ensures)
 
 pub returns : goal.returns
 returns g c =
-    tree_walked _ _ _ _ c.args.size c.args.meta.now _ _ c.new-met.ensures _ c.walk-from.new.met refl c.if-pairs-meta.false c.in-ok-pairs.ensures
+    tree_walked _ _ _ _ c.args.size c.args.meta.now _ _ c.new-met.ensures _ c.walk_from.new.met refl c.if-pairs-meta.false c.in_ok-pairs.ensures

@@ -14,13 +14,13 @@ spans : (c : After-spans) → c.spans.result ≡ all_within (low_of c.args.self)
 spans c =
     let b = c.args.branch.now in
     let has = branch_has b.bytes (none_of branch_rules b.bytes b.sound) in
-    c.spans.ensures ∙ branch_ends (low_of c.args.self) (high_of c.args.self) (branch_node b) _ _ _ has.rises c.separator.ensures c.separator-2.ensures (omega (arith, c.saturating-sub-last.ensures, c.len.ensures))
+    c.spans.ensures ∙ branch_ends (low_of c.args.self) (high_of c.args.self) (branch_node b) _ _ _ has.rises c.separator.ensures c.separator-2.ensures (omega (arith, c.saturating_sub-last.ensures, c.len.ensures))
 
 pub returns-then-not-spans : goal.returns-then-not-spans
 returns-then-not-spans c = let s = spans (at-returns-then-not-spans c).After-spans in grind (arith, nat_tests)
 
-pub returns-then-not-is-filled : goal.returns-then-not-is-filled
-returns-then-not-is-filled c = let s = spans (at-returns-then-not-is-filled c).After-spans in grind (arith, nat_tests)
+pub returns-then-not-is_filled : goal.returns-then-not-is_filled
+returns-then-not-is_filled c = let s = spans (at-returns-then-not-is-filled c).After-spans in grind (arith, nat_tests)
 
 pub returns : goal.returns
 returns c = let s = spans (at-returns c).After-spans in grind (arith, nat_tests)

@@ -11,9 +11,9 @@ returns-in-Some c = high_some (high_of c.args.self.now) (branch_node c.args.bran
 pub returns-in-Some-high : goal.returns-in-Some-high
 returns-in-Some-high c =
     sym (ap (λ o. bound_of (option_map (λ x. x.now) o)) c.in-Some-high.is)
-    ∙ high_none (high_of c.args.self.now) (branch_node c.args.branch.now).rest c.args.i c.in-default.ensures
+    ∙ high_none (high_of c.args.self.now) (branch_node c.args.branch.now).rest c.args.i c.in_default.ensures
 
 pub returns-in-None : goal.returns-in-None
 returns-in-None c =
     sym (ap (λ o. bound_of (option_map (λ x. x.now) o)) c.in-None.is)
-    ∙ high_none (high_of c.args.self.now) (branch_node c.args.branch.now).rest c.args.i c.in-default.ensures
+    ∙ high_none (high_of c.args.self.now) (branch_node c.args.branch.now).rest c.args.i c.in_default.ensures

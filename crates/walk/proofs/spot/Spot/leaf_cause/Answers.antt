@@ -14,7 +14,7 @@ spans : (c : After-spans) → c.spans.result ≡ all_within (low_of c.args.self)
 spans c =
     let l = c.args.leaf.now in
     let has = leaf_has l.bytes (none_of leaf_rules l.bytes l.sound) in
-    c.spans.ensures ∙ leaf_ends (low_of c.args.self) (high_of c.args.self) (leaf_pairs l) _ _ _ has.rises c.key.ensures c.key-2.ensures (omega (arith, c.saturating-sub-last.ensures, c.len.ensures))
+    c.spans.ensures ∙ leaf_ends (low_of c.args.self) (high_of c.args.self) (leaf_pairs l) _ _ _ has.rises c.key.ensures c.key-2.ensures (omega (arith, c.saturating_sub-last.ensures, c.len.ensures))
 
 pub returns-then-not-spans : goal.returns-then-not-spans
 returns-then-not-spans c = let s = spans (at-returns-then-not-spans c).After-spans in grind (arith, nat_tests)
