@@ -4,11 +4,11 @@ use Rattle.walk.specs.Checking.{fits_pages}
 use Rattle.store.proofs.Reopening.{sync_refused, recovered}
 use Rattle.store.proofs.opening.reopen.Goals as goal
 
-pub returns-in-err-sync : goal.returns-in-err-sync
-returns-in-err-sync g c =
-    let q = err_from_is_err_and c.from-residual.result c.from-residual.ensures.1 in
-    rw (q.1, q.2) (sync_refused _ _ _ _ (ap fits_pages (sym c.pages.ensures) ∙ sym c.has-room.ensures ∙ c.if-not-has-room.false) _ c.in-err-sync.ensures)
+pub returns-in_err-sync : goal.returns-in_err-sync
+returns-in_err-sync g c =
+    let q = err_from_is_err_and c.from_residual.result c.from_residual.ensures.1 in
+    rw (q.1, q.2) (sync_refused _ _ _ _ (ap fits_pages (sym c.pages.ensures) ∙ sym c.has_room.ensures ∙ c.if-not-has_room.false) _ c.in_err-sync.ensures)
 
 pub returns : goal.returns
 returns g c =
-    recovered _ _ _ _ (ap fits_pages (sym c.pages.ensures) ∙ sym c.has-room.ensures ∙ c.if-not-has-room.false) _ _ c.in-ok-sync.ensures _ c.recover.ensures.fits c.recover.ensures.found
+    recovered _ _ _ _ (ap fits_pages (sym c.pages.ensures) ∙ sym c.has_room.ensures ∙ c.if-not-has_room.false) _ _ c.in_ok-sync.ensures _ c.recover.ensures.fits c.recover.ensures.found

@@ -15,4 +15,4 @@ pub returns-in-After : goal.returns-in-After
 returns-in-After g c = after_acts _ _ _ _ _ _ _ _ _ _ _ _ _ _ c.in-After.is c.celled-in-After.ensures c.deref-in-After.ensures.value c.after.ensures.model
 
 pub returns-in-PowerReturn : goal.returns-in-PowerReturn
-returns-in-PowerReturn g c = return_acts _ _ _ _ _ _ _ _ _ _ c.in-PowerReturn.is refl c.power-return.ensures.shut c.power-return.ensures.device
+returns-in-PowerReturn g c = return_acts _ _ _ _ _ _ _ _ _ _ c.in-PowerReturn.is refl c.power_return.ensures.shut c.power_return.ensures.device
