@@ -3,7 +3,7 @@ use Rattle.std.proofs.Common.{◌≡◌, ℕ, ◌-◌, List, [], ◌∷◌, ◌+
 use lib.Bits.{bit_xor}
 use Rattle.std.proofs.lemmas.List.{take_rest}
 use Rattle.checksum.specs.Crc.{steps, crc_from, crc_of}
-use Rattle.checksum.specs.Sealed.{blanked, checksum_of}
+use Rattle.checksum.specs.Sealed.{checksum_of}
 
 pub crc_append : (r : ℕ) (xs ys : List ℕ) → crc_from r (xs ++ ys) ≡ crc_from (crc_from r xs) ys
 unfolding crc_from

@@ -1,5 +1,5 @@
 -- Eight bits at once: what the table's entry at the low byte gives.
-use Rattle.std.proofs.Common.{◌≡◌, ℕ, zero, suc, ◌+◌, ◌*◌, ◌/◌, ◌%◌, ◌^◌, ◌<◌, sym, ap, ◌∙◌, mul-one, arith}
+use Rattle.std.proofs.Common.{◌≡◌, ℕ, zero, suc, ◌*◌, ◌/◌, ◌%◌, ◌^◌, ◌<◌, sym, ap, ◌∙◌, mul-one, arith}
 use lib.Bits.{bit_xor, bit_and, xor_shr, xor_mod, xor_assoc, xor_zero_l, xor_zero_r, xor_shifted, shifted_half, shifted_even, and_mask}
 use Rattle.checksum.specs.Crc.{step, steps}
 

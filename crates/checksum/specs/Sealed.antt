@@ -1,5 +1,5 @@
 -- The checksum of a page, which stands in its bytes 12 to 15.
-use Rattle.std.specs.Prelude.{ℕ, Bool, List, [], ◌∷◌, ◌++◌, take, drop}
+use Rattle.std.specs.Prelude.{ℕ, Bool, List, ◌∷◌, ◌++◌, take, drop}
 use Rattle.std.specs.Str.{bytes_eq}
 use Rattle.checksum.specs.Crc.{crc_of}
 use Rattle.checksum.specs.Bytes.{le32, over}

@@ -1,7 +1,7 @@
 -- The device whose writes are durable only after a sync.
 use Rattle.std.specs.Prelude.{◌≡◌, ℕ, Bool, false, List, [], ◌∷◌, slice_index_or}
 use Rattle.device.specs.Medium.{Medium, Durable}
-use Rattle.device.specs.History.{Event, did_read, did_write, did_sync, power_returned, Step, History, Leads, last_durable}
+use Rattle.device.specs.History.{Event, did_read, did_write, did_sync, power_returned, History, Leads, last_durable}
 use Rattle.disks.specs.Pages.{page_at}
 
 -- a page that was not changed since it was last durable is as it was then

@@ -1,5 +1,5 @@
 -- Which call of a simulated device is the first that it refuses for want of power.
-use Rattle.std.specs.Prelude.{ℕ, ◌+◌, ◌-◌, ◌^◌, min, Bool, cond, ◌||◌, ◌==◌, nat_lt}
+use Rattle.std.specs.Prelude.{◌+◌, ◌-◌, ◌^◌, min, Bool, cond, ◌||◌, ◌==◌, nat_lt}
 use Rattle.disks.specs.declared.fuse.Fuse.{Fuse}
 
 -- it is on: fewer calls than the limit were made, or there is no limit

@@ -1,6 +1,5 @@
 -- What an image is made of, and what reading it gives.
-use Rattle.std.specs.Prelude.{◌≡◌, ℕ, cond, List, is_ok, Ok, Err, vec_items, Result, Vec, nat_lt}
-use Rattle.std.specs.declared.alloc.Global.{Global}
+use Rattle.std.specs.Prelude.{◌≡◌, ℕ, cond, List, is_ok, Ok, Err, vec_items, Result, nat_lt}
 use Rattle.device.specs.Medium.{zeros}
 use Rattle.device.specs.declared.fault.DeviceFault.{DeviceFault}
 use Rattle.device.specs.declared.fault.DeviceFault.TheVariants.{Outside}

@@ -1,5 +1,5 @@
 -- A device for reading only: bytes in whole pages.
-use Rattle.std.specs.Prelude.{◌≡◌, ℕ, ◌*◌, ◌/◌, ◌%◌, ◌^◌, ◌<◌, ◌≤◌, true, false, List, length, take, drop}
+use Rattle.std.specs.Prelude.{◌≡◌, ℕ, ◌*◌, ◌/◌, ◌%◌, ◌^◌, ◌<◌, true, false, List, length, take, drop}
 use Rattle.device.specs.Medium.{Medium}
 
 -- never off, and never volatile

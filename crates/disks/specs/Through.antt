@@ -1,7 +1,7 @@
 -- The device whose writes are durable at once.
-use Rattle.std.specs.Prelude.{ℕ, false, List, [], ◌∷◌}
+use Rattle.std.specs.Prelude.{false, [], ◌∷◌}
 use Rattle.device.specs.Medium.{Medium, Durable}
-use Rattle.device.specs.History.{Step, History}
+use Rattle.device.specs.History.{History}
 use Rattle.disks.specs.Pages.{page_at}
 use Rattle.disks.specs.Fuses.{powered}
 use Rattle.disks.specs.Banks.{pages_of, size_of}

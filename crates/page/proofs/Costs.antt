@@ -1,11 +1,11 @@
 -- What lists of cells cost.
-use Rattle.std.proofs.Common.{◌≡◌, ℕ, ◌+◌, ◌-◌, ◌*◌, ◌<◌, ◌≤◌, List, [], ◌∷◌, ◌++◌, length, get_or, take, drop, sym, refl, ap, ◌∙◌, add-one, arith}
+use Rattle.std.proofs.Common.{◌≡◌, ℕ, ◌+◌, ◌-◌, ◌*◌, ◌≤◌, List, [], ◌∷◌, ◌++◌, length, get_or, take, drop, sym, ap, ◌∙◌, arith}
 use Rattle.std.specs.List.{between}
-use Rattle.std.proofs.lemmas.List.{append_assoc, take-append-drop, take-take, length-append}
+use Rattle.std.proofs.lemmas.List.{take-append-drop, take-take, length-append}
 use Rattle.std.proofs.lemmas.Slice.{between_is}
 use Rattle.std.proofs.lemmas.List.Edits.{length-between}
 use Rattle.page.specs.Layout.{cost, bodies}
-use Rattle.page.proofs.Pages.{top, top_low, cost_take, bodies_append, cost_append, cost_one, cost_none, cost_split, cost_drop, front_is, back_is, all_is}
+use Rattle.page.proofs.Pages.{top, top_low, cost_take, bodies_append, cost_append, cost_one, cost_none, cost_split, front_is, back_is}
 
 -- the front of a list up to j is that up to i, and then what lies between
 split_take : (xs : List (List ℕ)) (i j : ℕ) → i ≤ j → take j xs ≡ take i xs ++ between i j xs

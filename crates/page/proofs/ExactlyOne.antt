@@ -1,15 +1,14 @@
 -- Each list of cells has exactly one page that reading accepts.
-use Rattle.std.proofs.Common.{◌≡◌, ℕ, zero, suc, ◌-◌, ◌*◌, ◌/◌, ◌%◌, ◌^◌, ◌<◌, true, false, not, List, [], ◌∷◌, ◌++◌, length, is_some, Some, None, Option, sym, refl, ap, ◌∙◌, arith}
+use Rattle.std.proofs.Common.{◌≡◌, ℕ, zero, suc, ◌-◌, ◌*◌, ◌/◌, ◌%◌, ◌^◌, ◌<◌, true, not, List, [], ◌∷◌, ◌++◌, length, is_some, Some, None, Option, sym, refl, ap, ◌∙◌, arith}
 use lib.Bits.{bit_xor, xor_lt}
 use Rattle.std.specs.List.{AllByRecursion as All}
-use Rattle.std.specs.Str.{bytes_eq}
 use Rattle.std.proofs.lemmas.Slice.Eq.{bytes_eq-Decides}
 use Rattle.std.proofs.lemmas.Bool.{false≢true}
 use Rattle.checksum.specs.Bytes.{le16, le32}
 use Rattle.checksum.specs.Crc.{step, steps, crc_from, crc_of}
 use Rattle.checksum.specs.Sealed.{is_sealed}
 use Rattle.page.specs.Kinds.{Rules}
-use Rattle.page.specs.Layout.{Shows, bodies, offsets, cost, zeros, header, laid_out, page_of}
+use Rattle.page.specs.Layout.{bodies, offsets, cost, zeros, header, laid_out, page_of}
 use Rattle.page.specs.Laws.{Byte, PagesReadBack, NothingElseIsRead}
 use Rattle.page.specs.Reading.{first_fault, sound}
 use Rattle.page.proofs.Pages.{cells_are, leftmost_is}

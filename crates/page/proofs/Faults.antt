@@ -1,5 +1,5 @@
 -- The first fault, by what was found so far.
-use Rattle.std.proofs.Common.{◌≡◌, ℕ, Bool, true, false, cond, not, eqb, List, get_or, Some, None, Option, sym, refl, ap, ◌∙◌}
+use Rattle.std.proofs.Common.{◌≡◌, ℕ, true, false, eqb, List, get_or, Some, None}
 use Rattle.checksum.specs.Sealed.{is_sealed}
 use Rattle.page.specs.Kinds.{Rules}
 use Rattle.page.specs.Layout.{cells_of}

@@ -1,5 +1,5 @@
 -- A leaf's list as one node or two.
-use Rattle.std.proofs.Common.{◌≡◌, ℕ, ◌-◌, ◌<◌, ◌≤◌, true, false, cond, List, [], map, length, get_or, take, drop, sym, refl, ap, ◌∙◌, arith}
+use Rattle.std.proofs.Common.{◌≡◌, ℕ, ◌-◌, ◌<◌, ◌≤◌, true, cond, List, [], map, length, get_or, take, drop, sym, ap, ◌∙◌, arith}
 use Rattle.std.specs.List.{between}
 use Rattle.std.proofs.lemmas.List.{length-map}
 use Rattle.std.proofs.lemmas.Slice.{between_to_end}
@@ -8,7 +8,7 @@ use Rattle.cuts.specs.Cuts.{fair}
 use Rattle.cuts.specs.Keys.{separator}
 use Rattle.cuts.specs.Nodes.{Pair, pair_cost}
 use Rattle.tree.specs.Trees.{leaf_cost}
-use Rattle.tree.specs.Edits.{Grown, one, two, first_key, last_key, cut_leaf, fit}
+use Rattle.tree.specs.Edits.{one, two, first_key, last_key, cut_leaf, fit}
 use Rattle.page.specs.Growths.{fitted}
 use Rattle.page.specs.Kinds.{leaf_good, leaf_key, pair_of}
 use Rattle.page.specs.Layout.{cost}

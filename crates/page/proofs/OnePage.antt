@@ -1,12 +1,11 @@
 -- Edits within one leaf: its first cells, perhaps a new one, its last cells.
-use Rattle.std.proofs.Common.{◌≡◌, ℕ, suc, ◌+◌, ◌-◌, ◌<◌, ◌≤◌, true, List, [], ◌∷◌, ◌++◌, map, length, take, drop, sym, refl, ap, ◌∙◌, subst, arith}
-use Rattle.std.proofs.lemmas.Bool.{and_from}
+use Rattle.std.proofs.Common.{◌≡◌, ℕ, ◌+◌, ◌≤◌, true, List, [], ◌∷◌, ◌++◌, map, take, drop, sym, subst, arith}
 use Rattle.cuts.specs.Nodes.{Pair}
 use Rattle.tree.specs.Maps.{Rising}
 use Rattle.page.specs.Kinds.{leaf_good, leaf_key, pair_of}
 use Rattle.page.specs.Layout.{cost}
 use Rattle.page.specs.Reading.{every, rising}
-use Rattle.page.proofs.Pages.{cost_append, cost_one, cost_none, cost_split, cost_drop}
+use Rattle.page.proofs.Pages.{cost_append, cost_one, cost_split, cost_drop}
 use Rattle.page.proofs.Leaves.{leaf_parts_of}
 use Rattle.page.proofs.Parts.{every_take, every_drop}
 use Rattle.page.proofs.Puts.{rising_back, cells_as_pairs}

@@ -1,11 +1,10 @@
 -- A page with its checksum in its place.
 use Rattle.std.proofs.Common.{◌≡◌, ℕ, ◌^◌, ◌<◌, ◌≤◌, true, List, sym, refl, ap, ◌∙◌}
-use Rattle.std.specs.Str.{bytes_eq}
 use Rattle.std.proofs.lemmas.Slice.Eq.{bytes_eq-Decides}
 use Rattle.checksum.specs.Bytes.{le32, over}
 use Rattle.checksum.specs.Crc.{crc_of}
 use Rattle.checksum.specs.Sealed.{blanked, checksum_of, sealed, is_sealed}
-use Rattle.page.specs.Layout.{Shows, Laid, laid_out, page_of, cost, cells_of, left_of, sum_of}
+use Rattle.page.specs.Layout.{Shows, laid_out, page_of, cost}
 
 module _ (k l : ℕ) (cells : List (List ℕ)) where
   -- whatever checksum stands there, it is taken as zero

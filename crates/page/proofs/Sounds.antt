@@ -1,10 +1,9 @@
 -- Pages that reading accepts.
-use Rattle.std.proofs.Common.{◌≡◌, ℕ, ◌^◌, ◌<◌, ◌≤◌, Bool, true, false, cond, not, eqb, List, length, get_or, is_some, Some, None, Option, sym, refl, ap, ◌∙◌, subst}
+use Rattle.std.proofs.Common.{◌≡◌, ℕ, Bool, true, false, cond, not, eqb, List, get_or, is_some, Some, None, Option, refl, ap, ◌∙◌}
 use Rattle.std.proofs.lemmas.Bool.{false≢true, eq-eqb}
-use Rattle.checksum.specs.Crc.{crc_of}
 use Rattle.checksum.specs.Sealed.{is_sealed}
 use Rattle.page.specs.Kinds.{Rules}
-use Rattle.page.specs.Layout.{Shows, Laid, cells_of, left_of, laid_out, page_of}
+use Rattle.page.specs.Layout.{Shows, cells_of, laid_out, page_of}
 use Rattle.page.specs.Reading.{every, layout, rising, shape_fault, first_fault, sound}
 use Rattle.page.specs.declared.fault.Cause.{Cause}
 use Rattle.page.specs.declared.fault.Cause.TheVariants.{Checksum, Kind, Layout, Order}

@@ -1,7 +1,5 @@
 -- What the test of a page's layout goes by.
-use Rattle.std.proofs.Common.{◌≡◌, ℕ, zero, suc, ◌+◌, ◌-◌, ◌*◌, ◌/◌, ◌%◌, ◌^◌, ◌<◌, ◌≤◌, Bool, true, false, ◌&&◌, leb, List, [], ◌∷◌, ◌++◌, length, get_or, take, drop, sym, refl, ap, ◌∙◌, subst, ⊎_elim, mod-eq_of_lt, add-one, arith}
-use Rattle.std.specs.List.{between}
-use Rattle.std.specs.Str.{bytes_eq}
+use Rattle.std.proofs.Common.{◌≡◌, ℕ, zero, suc, ◌+◌, ◌-◌, ◌*◌, ◌/◌, ◌%◌, ◌^◌, ◌<◌, ◌≤◌, Bool, true, false, List, [], ◌∷◌, ◌++◌, length, get_or, take, drop, sym, refl, ap, ◌∙◌, ⊎_elim, mod-eq_of_lt, add-one, arith}
 use Rattle.std.proofs.lemmas.List.FromFn.{get_or-map-range_with_len}
 use Rattle.std.proofs.lemmas.Slice.Eq.{bytes_eq-Decides}
 use Rattle.std.proofs.lemmas.List.{take_more, take-append-drop, drop-drop, length-drop, length-take-le, get_or-drop, drop_all, append_assoc}
@@ -9,10 +7,10 @@ use Rattle.std.proofs.lemmas.Bool.{and_parts, and_from, cases_Bool, leb-true, le
 use Rattle.checksum.specs.Bytes.{le16}
 use Rattle.page.specs.Words.{word16, word32}
 use Rattle.page.specs.Kinds.{Rules}
-use Rattle.page.specs.Layout.{Shows, Laid, bodies, offsets, cost, laid_out, cells_of, cell_in, edge_at, left_of, sum_of}
+use Rattle.page.specs.Layout.{Laid, bodies, offsets, cells_of, cell_in, edge_at, left_of}
 use Rattle.page.specs.Reading.{every, layout}
 use Rattle.page.specs.Packed.{Packed}
-use Rattle.page.proofs.Pages.{top, top_more, top_low, edge_is, count_of, bodies_append, offsets_append}
+use Rattle.page.proofs.Pages.{top_more, top_low, edge_is, count_of, bodies_append, offsets_append}
 
 -- each number is a byte
 abbrev pub Bytes : List ℕ → Type 0

@@ -1,6 +1,5 @@
 -- A page from its parts: the header, the offsets, the zeros and the cells.
-use Rattle.std.proofs.Common.{◌≡◌, ℕ, zero, suc, ◌+◌, ◌-◌, ◌*◌, ◌/◌, ◌%◌, ◌<◌, ◌≤◌, true, List, [], ◌∷◌, ◌++◌, length, get_or, take, drop, replicate, sym, refl, ap, ◌∙◌, subst, mod-eq_of_lt, arith}
-use native.Mathlib.Nat.{div-div-eq-div-mul}
+use Rattle.std.proofs.Common.{◌≡◌, ℕ, suc, ◌+◌, ◌-◌, ◌*◌, ◌/◌, ◌%◌, ◌<◌, ◌≤◌, List, [], ◌∷◌, ◌++◌, length, get_or, take, drop, sym, refl, ap, ◌∙◌, mod-eq_of_lt, arith}
 use Rattle.std.proofs.lemmas.List.FromFn.{fill_by_all}
 use Rattle.std.proofs.lemmas.List.{take_all, take-append-drop, drop-drop, length-drop, length-append, length-take-le, get_or-take, get_or-drop, get_or_append_left, get_or-append_right, get_or-replicate, append_assoc}
 use Rattle.checksum.specs.Bytes.{le16, le32}
@@ -8,7 +7,7 @@ use Rattle.page.specs.Words.{word16, word32}
 use Rattle.page.specs.Kinds.{Rules}
 use Rattle.page.specs.Layout.{Laid, zeros, bodies, offsets, cost, header, laid_out, cells_of, edge_at, left_of, sum_of}
 use Rattle.page.specs.Packed.{Packed, Headed}
-use Rattle.page.proofs.Pages.{top, edge_is, count_of, count_is, lowest_is, length_offsets, length_zeros}
+use Rattle.page.proofs.Pages.{edge_is, count_of, lowest_is, length_offsets, length_zeros}
 use Rattle.page.proofs.Tested.{Bytes, word32_small, le16_back}
 
 -- four bytes as the number that they hold

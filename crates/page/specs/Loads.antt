@@ -6,7 +6,6 @@ use Rattle.device.specs.History.{History, did_read, step}
 use Rattle.device.specs.declared.fault.DeviceFault.{DeviceFault}
 use Rattle.page.specs.Kinds.{Rules}
 use Rattle.page.specs.Reading.{first_fault}
-use Rattle.page.specs.declared.fault.Damage.{Damage}
 use Rattle.page.specs.declared.fault.PageFault.{PageFault}
 use Rattle.page.specs.declared.fault.PageFault.TheVariants.{Device, Damaged}
 

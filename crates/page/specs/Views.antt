@@ -1,6 +1,6 @@
 -- What pages hold: a leaf its pairs, a branch its children and separators.
 use Rattle.std.specs.Prelude.{◌≡◌, ℕ, ◌<◌, cond, List, [], map, length, get_or, Some, None, Ok, Err, Option, Result, ◌≢◌, nat_lt, slice_index_or}
-use Rattle.cuts.specs.Nodes.{Pair, Cell, Branch}
+use Rattle.cuts.specs.Nodes.{Pair, Branch}
 use Rattle.page.specs.Kinds.{pair_of, cell_of, leaf_rules, branch_rules}
 use Rattle.page.specs.Layout.{cells_of, left_of}
 use Rattle.page.specs.Reading.{first_fault}

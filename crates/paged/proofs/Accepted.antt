@@ -1,15 +1,14 @@
 -- What a page has that reading accepts.
-use Rattle.std.proofs.Common.{◌≡◌, ℕ, ◌+◌, ◌≤◌, true, not, List, [], ◌∷◌, map, length, get_or, drop, is_some, Some, None, Option, sym, refl, ap, ◌∙◌, arith}
+use Rattle.std.proofs.Common.{◌≡◌, ℕ, ◌+◌, ◌≤◌, true, not, List, [], ◌∷◌, map, length, get_or, drop, is_some, Some, None, Option, sym, refl, ◌∙◌, arith}
 use Rattle.std.specs.List.{AllByRecursion as All}
 use Rattle.std.proofs.lemmas.List.{length-drop, length-take-le, length-map}
 use Rattle.std.proofs.lemmas.Bool.{and_parts, false≢true}
-use Rattle.cuts.specs.Cuts.{total}
-use Rattle.cuts.specs.Nodes.{Pair, PairFits, CellFits, pair_cost, cell_cost}
+use Rattle.cuts.specs.Nodes.{PairFits, CellFits}
 use Rattle.tree.specs.Maps.{Rising}
 use Rattle.tree.specs.Trees.{leaf_cost, branch_cost}
 use Rattle.page.specs.Branches.{ascending}
-use Rattle.page.specs.Kinds.{Rules, leaf_rules, branch_rules, leaf_good, branch_good, leaf_key, branch_key, pair_of, cell_of}
-use Rattle.page.specs.Layout.{cost, bodies, cells_of}
+use Rattle.page.specs.Kinds.{Rules, leaf_rules, branch_rules, leaf_good, branch_good, pair_of, cell_of}
+use Rattle.page.specs.Layout.{cost, cells_of}
 use Rattle.page.specs.Reading.{every, rising, first_fault, sound}
 use Rattle.page.specs.Views.{pairs_in, branch_in}
 use Rattle.page.specs.declared.fault.Cause.{Cause}

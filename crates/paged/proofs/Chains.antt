@@ -1,11 +1,10 @@
 -- Separators that rise between bounds, and the children between them.
-use Rattle.std.proofs.Common.{◌≡◌, ℕ, suc, Bool, true, false, not, ◌&&◌, List, [], ◌∷◌, map, sym, refl, ap, ◌∙◌, subst}
+use Rattle.std.proofs.Common.{◌≡◌, ℕ, true, List, [], ◌∷◌, map, refl}
 use Rattle.std.specs.List.{AllByRecursion as All}
 use Rattle.std.proofs.lemmas.Bool.{and_parts, and_from, not-true, not_from_false}
-use Rattle.cuts.specs.Cuts.{total}
-use Rattle.cuts.specs.Keys.{key<, Below, AtMost}
+use Rattle.cuts.specs.Keys.{key<, AtMost}
 use Rattle.cuts.specs.Nodes.{Pair, Cell, CellFits}
-use Rattle.cuts.proofs.Order.{less_trans, most_trans, most_from_less}
+use Rattle.cuts.proofs.Order.{most_trans, most_from_less}
 use Rattle.tree.specs.Places.{map_cell}
 use Rattle.tree.specs.Sound.{Bound, none, before, Under, Within, top, Rest, Spans}
 use Rattle.tree.proofs.Strict.{under_trans}

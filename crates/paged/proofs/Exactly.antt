@@ -1,31 +1,28 @@
 -- The walk accepts exactly the sound trees that lie on the pages.
-use Rattle.std.proofs.Common.{◌≡◌, ℕ, zero, suc, ◌<◌, ◌≤◌, Bool, true, false, cond, not, ◌&&◌, ◌||◌, eqb, ltb, leb, List, [], ◌∷◌, map, length, Some, None, Ok, Err, Option, Result, sym, refl, ap, ◌∙◌, subst, arith}
+use Rattle.std.proofs.Common.{◌≡◌, ℕ, zero, suc, ◌<◌, ◌≤◌, Bool, true, false, cond, ◌&&◌, eqb, List, [], ◌∷◌, map, length, Some, None, Ok, Err, Option, sym, refl, ap, ◌∙◌, subst, arith}
 use Rattle.std.specs.List.{AllByRecursion as All}
 use Rattle.std.proofs.lemmas.List.{length-map}
 use Rattle.std.proofs.lemmas.Bool.Decides.{nat_tests}
-use Rattle.std.proofs.lemmas.Bool.{and_parts, and_from, eqb-false, ne_eqb, leb-true, le-leb, lt-ltb, not_from_false}
+use Rattle.std.proofs.lemmas.Bool.{and_parts, and_from, eqb-false, ne_eqb, leb-true, le-leb, lt-ltb}
 use Rattle.std.proofs.ByRecursion.{All-map, All-weaker}
 use Rattle.cuts.specs.Cuts.{total}
-use Rattle.cuts.specs.Nodes.{Pair, Cell, Branch, CellFits, cell_cost}
-use Rattle.cuts.specs.Sizes.{usable, quarter}
-use Rattle.tree.specs.Trees.{Tree, cost, leaf_cost, branch_cost, branch}
+use Rattle.cuts.specs.Nodes.{Cell, Branch, CellFits, cell_cost}
+use Rattle.tree.specs.Trees.{Tree, cost, branch_cost, branch}
 use Rattle.tree.specs.Search.{or_else}
 use Rattle.tree.specs.Places.{map_cell, map_branch}
-use Rattle.tree.specs.Sound.{Bound, none, before, Spans, Light, Full, Sound, Forked, SoundTree}
+use Rattle.tree.specs.Sound.{Bound, none, Spans, Light, Full, Sound, Forked}
 use Rattle.tree.proofs.Leaves.{all_both}
-use Rattle.page.specs.Branches.{ascending}
 use Rattle.page.specs.Kinds.{leaf_rules, branch_rules}
 use Rattle.page.specs.Reading.{first_fault}
 use Rattle.page.specs.Views.{pairs_in, branch_in}
 use Rattle.page.specs.declared.fault.Cause.{Cause}
 use Rattle.page.specs.declared.fault.Cause.TheVariants.{Bounds, Underfull, PairCount}
-use Rattle.page.specs.declared.fault.Damage.{Damage}
-use Rattle.paged.specs.Paged.{PagedTree, root_page, children, pages_of, bare, pairs_on, Lies, tree_at}
-use Rattle.paged.specs.Walk.{unless, all_within, keys_of, separators_of, leaf_filled, branch_filled, leaf_fault, branch_fault, Slot, slots, slots_of, elem, admits, damage, Walked, fault, fine, walk, counted, walked}
+use Rattle.paged.specs.Paged.{PagedTree, root_page, children, pages_of, bare, Lies, tree_at}
+use Rattle.paged.specs.Walk.{unless, all_within, keys_of, separators_of, leaf_filled, branch_filled, leaf_fault, branch_fault, Slot, slots_of, elem, admits, damage, Walked, fault, fine, walk, counted, walked}
 use Rattle.paged.specs.Sound.{Distinct, Inside, SoundOn}
 use Rattle.paged.specs.Laws.{WalksAcceptSoundTrees}
 use Rattle.paged.proofs.Accepted.{leaf_has, branch_has}
-use Rattle.paged.proofs.Chains.{Chained, Slotted, within_tells, within_from, chain_from, chain_within, spans_from, spans_slots, spans_map, fits_map}
+use Rattle.paged.proofs.Chains.{Slotted, within_tells, within_from, chain_from, chain_within, spans_from, spans_slots, spans_map, fits_map}
 use Rattle.paged.proofs.Judged.{Judged, every, is_none, onto, fresh, passes, below, child_of, count_at, children_map, slots_children, judged_walk, pages_found}
 use Rattle.paged.proofs.Lying.{one_tree_lies_lem}
 

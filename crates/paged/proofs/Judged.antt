@@ -1,5 +1,5 @@
 -- What the walk accepts: one judgement for both ways.
-use Rattle.std.proofs.Common.{◌≡◌, ℕ, zero, suc, ◌+◌, Bool, true, false, cond, not, ◌&&◌, List, [], ◌∷◌, ◌++◌, map, length, Some, None, sum_by, Option, sym, refl, ap, ◌∙◌, subst, add-zero, add_assoc, zero-add, arith, length-append}
+use Rattle.std.proofs.Common.{◌≡◌, ℕ, zero, suc, ◌+◌, Bool, true, false, cond, ◌&&◌, List, [], ◌∷◌, ◌++◌, map, length, Some, None, sum_by, Option, sym, refl, ap, ◌∙◌, subst, add-zero, add_assoc, zero-add, arith, length-append}
 use Rattle.std.specs.List.{flat_map}
 use Rattle.std.proofs.lemmas.Bool.Decides.{nat_tests}
 use Rattle.std.proofs.lemmas.List.Sums.{sum_by-cons}
@@ -11,8 +11,8 @@ use Rattle.page.specs.Views.{pairs_in, branch_in}
 use Rattle.page.specs.declared.fault.Cause.{Cause}
 use Rattle.page.specs.declared.fault.Cause.TheVariants.{Child}
 use Rattle.page.specs.declared.fault.Damage.{Damage}
-use Rattle.paged.specs.Paged.{PagedTree, children, pages_of, bare, pairs_on, tree_at}
-use Rattle.paged.specs.Walk.{leaf_fault, branch_fault, Slot, slot, slots, slots_of, admits, damage, Walked, fault, fine, then, tested, along, walk}
+use Rattle.paged.specs.Paged.{children, pages_of, bare, pairs_on, tree_at}
+use Rattle.paged.specs.Walk.{leaf_fault, branch_fault, Slot, slots, slots_of, admits, damage, Walked, fault, fine, then, tested, along, walk}
 
 -- pages put before those that were met, one by one; and whether each may be met then
 abbrev pub onto : List ℕ → List ℕ → List ℕ

@@ -1,16 +1,16 @@
 -- A sound tree on pages has fewer pages than the device, and so it is low.
-use Rattle.std.proofs.Common.{◌≡◌, ℕ, zero, suc, ◌+◌, ◌-◌, ◌<◌, ◌≤◌, Bool, true, false, cond, ◌≢◌, List, [], ◌∷◌, map, length, get_or, set, replicate, count_by, sym, refl, ap, ◌∙◌, subst, arith, length-append, length-set}
+use Rattle.std.proofs.Common.{◌≡◌, ℕ, zero, suc, ◌+◌, ◌<◌, ◌≤◌, Bool, true, false, cond, ◌≢◌, List, [], ◌∷◌, map, length, get_or, set, replicate, count_by, sym, refl, ap, ◌∙◌, arith, length-append, length-set}
 use Rattle.std.specs.List.{flat_map, AllByRecursion as All}
-use Rattle.std.proofs.lemmas.List.{get_or-set_other, get_or-replicate, length-replicate, length-map}
+use Rattle.std.proofs.lemmas.List.{get_or-set_other, get_or-replicate, length-replicate}
 use Rattle.std.proofs.lemmas.List.Sums.{sum_by-set, count_by-le-length, sum_by-cons}
 use Rattle.cuts.specs.Cuts.{total}
 use Rattle.cuts.specs.Nodes.{Cell, Branch}
 use Rattle.tree.specs.Counts.{sum_over, nodes}
-use Rattle.tree.specs.Places.{map_cell, map_branch}
+use Rattle.tree.specs.Places.{map_cell}
 use Rattle.tree.proofs.Width.{branches_are_wide_lem, sound_trees_are_low_lem}
 use Rattle.paged.specs.Paged.{PagedTree, children, pages_of, bare, as_tree}
-use Rattle.paged.specs.Sound.{Distinct, Inside, SoundOn}
-use Rattle.paged.specs.Laws.{Low, SoundTreesOnPagesAreLow}
+use Rattle.paged.specs.Sound.{Distinct, Inside}
+use Rattle.paged.specs.Laws.{SoundTreesOnPagesAreLow}
 
 -- how many places of a list are marked
 abbrev marked : List Bool → ℕ

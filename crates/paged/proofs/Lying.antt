@@ -4,8 +4,7 @@ use Rattle.std.specs.List.{AllByRecursion as All}
 use Rattle.cuts.specs.Nodes.{Cell, Branch}
 use Rattle.tree.specs.Trees.{cell, branch}
 use Rattle.tree.specs.Places.{map_cell, map_branch}
-use Rattle.page.specs.Views.{branch_in}
-use Rattle.paged.specs.Paged.{PagedTree, root_page, children, Lies, tree_at}
+use Rattle.paged.specs.Paged.{root_page, children, Lies, tree_at}
 use Rattle.paged.specs.Laws.{OneTreeLies}
 
 -- cells whose children are each found again

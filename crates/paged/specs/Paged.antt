@@ -1,7 +1,7 @@
 -- Trees on the pages of a device.
 use Rattle.std.specs.Prelude.{◌≡◌, ℕ, zero, suc, List, [], ◌∷◌, map, None}
 use Rattle.std.specs.List.{flat_map, AllByRecursion as All}
-use Rattle.cuts.specs.Nodes.{Pair, Cell, Branch}
+use Rattle.cuts.specs.Nodes.{Pair, Branch}
 use Rattle.tree.specs.Trees.{Tree, BTree, pairs_of}
 use Rattle.tree.specs.Places.{map_branch}
 use Rattle.page.specs.Kinds.{leaf_rules, branch_rules}

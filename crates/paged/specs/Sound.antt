@@ -1,5 +1,5 @@
 -- Sound trees on the pages of a device.
-use Rattle.std.specs.Prelude.{◌≡◌, ℕ, ◌<◌, ◌≤◌, false, List, [], ◌∷◌, length, ◌≢◌}
+use Rattle.std.specs.Prelude.{◌≡◌, ℕ, ◌<◌, ◌≤◌, List, [], ◌∷◌, length, ◌≢◌}
 use Rattle.std.specs.List.{AllByRecursion as All}
 use Rattle.tree.specs.Sound.{SoundTree}
 use Rattle.paged.specs.Paged.{PagedTree, root_page, pages_of, as_tree, pairs_on, Lies}

@@ -1,12 +1,12 @@
 -- What is kept from call to call: the record's commit is durable and whole, and the other meta page holds an older one, or
 -- the one in doubt, which is then whole, too.
-use Rattle.std.proofs.Common.{◌≡◌, ℕ, zero, suc, ◌+◌, ◌-◌, ◌%◌, ◌<◌, ◌≤◌, Bool, true, false, cond, eqb, ltb, ◌⊎◌, List, [], ◌∷◌, ◌++◌, Some, None, Ok, Err, Option, Result, sym, refl, ap, ◌∙◌, subst, inl, inr, ⊎_elim, arith}
+use Rattle.std.proofs.Common.{◌≡◌, ℕ, ◌+◌, ◌%◌, ◌<◌, ◌≤◌, Bool, true, false, cond, ltb, ◌⊎◌, List, [], ◌∷◌, Some, None, Option, Result, sym, refl, ap, ◌∙◌, subst, inl, inr, ⊎_elim, arith}
 use Rattle.std.specs.List.{AllByRecursion as All}
 use Rattle.std.proofs.lemmas.Bool.Decides.{nat_tests}
-use Rattle.std.proofs.lemmas.Bool.{cases_Bool, cases_eq, eq-eqb, lt-ltb, le-ltb, both_ways}
+use Rattle.std.proofs.lemmas.Bool.{cases_Bool, cases_eq, eq-eqb, both_ways}
 use Rattle.device.specs.Medium.{Medium}
 use Rattle.device.specs.Calls.{Keeps, KeepsBut, Returns}
-use Rattle.device.specs.History.{Event, did_read, did_write, did_sync, power_returned, step, History, last_durable, last_written, written_by}
+use Rattle.device.specs.History.{Event, did_write, power_returned, step, History, last_durable, last_written, written_by}
 use Rattle.device.specs.declared.fault.DeviceFault.{DeviceFault}
 use Rattle.cuts.specs.Nodes.{Pair}
 use Rattle.meta.specs.Laws.{Fits}

@@ -1,5 +1,5 @@
 -- What is asked of a device beyond its rules.
-use Rattle.std.specs.Prelude.{◌≡◌, ℕ, ◌<◌, true, ◌⊎◌, List, [], ◌∷◌, Some}
+use Rattle.std.specs.Prelude.{◌≡◌, ℕ, ◌<◌, true, ◌⊎◌, [], ◌∷◌, Some}
 use Rattle.device.specs.Medium.{Medium}
 use Rattle.device.specs.History.{Event, did_read, did_write, did_sync, power_returned, History, last_durable, last_written}
 use Rattle.meta.specs.Test.{read_meta}

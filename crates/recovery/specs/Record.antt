@@ -1,5 +1,5 @@
 -- The client's record: what a client knows of its store, from its own calls and their answers alone.
-use Rattle.std.specs.Prelude.{ℕ, ◌+◌, Bool, true, false, cond, List, [], ◌∷◌, Some, None, Option, ◌==◌}
+use Rattle.std.specs.Prelude.{ℕ, ◌+◌, Bool, false, cond, List, [], Some, None, Option, ◌==◌}
 use Rattle.cuts.specs.Nodes.{Pair}
 use Rattle.faults.specs.Numbers.{number as fault_number}
 use Rattle.store.specs.declared.client.Answer.{Answer}

@@ -1,10 +1,9 @@
 -- How stretches of calls are put together.
-use Rattle.std.proofs.Common.{◌≡◌, List, [], ◌∷◌, ◌++◌, sym, refl, subst, append_assoc}
+use Rattle.std.proofs.Common.{[], ◌∷◌, ◌++◌, sym, refl, subst, append_assoc}
 use Rattle.std.specs.List.{AllByRecursion as All}
 use Rattle.std.proofs.ByRecursion.{All-append, All-weaker}
 use Rattle.device.specs.Medium.{Medium}
-use Rattle.device.specs.Calls.{Reads}
-use Rattle.device.specs.History.{Event, did_read, Step, step, History, Leads, Allowed, Happens}
+use Rattle.device.specs.History.{Event, Step, step, History, Leads, Allowed, Happens}
 use Rattle.device.specs.Looking.{IsRead, Looks}
 use Rattle.device.proofs.Looking.{leads_more}
 use Rattle.store.specs.Acting.{IsAllowed, Acts}

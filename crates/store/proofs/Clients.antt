@@ -1,17 +1,16 @@
 -- Each call of a client, from what the store promises of it.
-use Rattle.std.proofs.Common.{◌≡◌, ℕ, Bool, List, [], Ok, Err, vec_items, Option, Result, Vec, sym, refl, subst}
+use Rattle.std.proofs.Common.{◌≡◌, ℕ, List, vec_items, Result, Vec, sym, refl, subst}
 use Rattle.std.specs.declared.alloc.Global.{Global}
 use Rattle.device.specs.Medium.{Medium}
 use Rattle.device.specs.History.{History, Happens, power_returned}
 use Rattle.device.specs.Looking.{Looks}
-use Rattle.cuts.specs.Nodes.{Pair}
 use Rattle.tree.specs.Maps.{first_above}
 use Rattle.faults.specs.declared.fault.StoreFault.{StoreFault}
 use Rattle.search.specs.Finding.{pair_with}
 use Rattle.store.specs.Acting.{Acts}
 use Rattle.store.specs.Calls.{Obeys}
 use Rattle.store.specs.Client.{Does, celled, done}
-use Rattle.store.specs.Model.{Model, Stepped, begins, reads}
+use Rattle.store.specs.Model.{begins, reads}
 use Rattle.store.specs.Reading.{is_key, is_short, Hands}
 use Rattle.store.specs.Versions.{Sound}
 use Rattle.store.specs.declared.client.Answer.{Answer}

@@ -1,9 +1,9 @@
 -- A commit, by what became of its calls.
-use Rattle.std.proofs.Common.{◌≡◌, ℕ, ◌+◌, ◌%◌, ◌<◌, ◌≤◌, Bool, true, false, ◌⊎◌, List, [], ◌∷◌, Ok, Err, Result, sym, refl, ap, ◌∙◌, subst, inl, inr, arith}
+use Rattle.std.proofs.Common.{◌≡◌, ℕ, ◌+◌, ◌%◌, ◌≤◌, Bool, true, false, List, [], ◌∷◌, Ok, Err, Result, sym, refl, ap, ◌∙◌, subst, inl, inr, arith}
 use Rattle.std.specs.List.{AllByRecursion as All}
 use Rattle.std.proofs.lemmas.Bool.Decides.{nat_tests}
 use Rattle.device.specs.Medium.{Medium}
-use Rattle.device.specs.Calls.{Keeps, Writes, Syncs}
+use Rattle.device.specs.Calls.{Writes, Syncs}
 use Rattle.device.specs.History.{History}
 use Rattle.device.specs.declared.fault.DeviceFault.{DeviceFault}
 use Rattle.device.specs.declared.fault.DeviceFault.TheVariants.{Outside, Off}
@@ -16,7 +16,7 @@ use Rattle.store.specs.Acting.{Acts}
 use Rattle.store.specs.Calls.{Obeys, CommitCalls}
 use Rattle.store.specs.Model.{commits}
 use Rattle.store.specs.Sealing.{page_for, Seals}
-use Rattle.store.specs.Versions.{pairs_held, Stands, Committed, Sound, model_of}
+use Rattle.store.specs.Versions.{Stands, Committed, Sound}
 use Rattle.store.specs.declared.state.State.{State}
 use Rattle.faults.specs.declared.fault.StoreFault.{StoreFault}
 use Rattle.store.specs.declared.state.State.TheVariants.{Shut, Idle, InTransaction}

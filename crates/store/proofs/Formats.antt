@@ -1,5 +1,5 @@
 -- Formatting, by what its calls answer.
-use Rattle.std.proofs.Common.{◌≡◌, ℕ, ◌<◌, ◌≤◌, true, false, ◌⊎◌, List, [], ◌∷◌, None, Ok, Err, Result, sym, refl, ap, ◌∙◌, subst, inl, inr, arith}
+use Rattle.std.proofs.Common.{◌≡◌, ℕ, ◌<◌, ◌≤◌, true, false, List, [], None, Ok, Err, Result, sym, refl, ap, ◌∙◌, arith}
 use Rattle.std.proofs.lemmas.Bool.Decides.{nat_tests}
 use Rattle.device.specs.Medium.{Medium, zeros}
 use Rattle.device.specs.Calls.{Writes}
@@ -10,7 +10,6 @@ use Rattle.page.specs.Kinds.{leaf_rules}
 use Rattle.page.specs.Reading.{first_fault}
 use Rattle.page.specs.Views.{pairs_in}
 use Rattle.meta.specs.Layout.{meta_page}
-use Rattle.meta.specs.declared.Meta.{Meta}
 use Rattle.walk.specs.Checking.{fits_pages}
 use Rattle.store.specs.Acting.{Acts}
 use Rattle.store.specs.Formatting.{first_meta, Fresh, LaysOut}

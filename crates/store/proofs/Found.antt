@@ -1,5 +1,5 @@
 -- What is found on a device is a committed version.
-use Rattle.std.proofs.Common.{◌≡◌, ℕ, ◌+◌, ◌-◌, ◌%◌, ◌<◌, ◌≤◌, Bool, true, false, cond, ◌&&◌, ltb, ◌⊎◌, List, [], ◌∷◌, Some, None, Ok, Err, Option, Result, sym, refl, ap, ◌∙◌, subst, inl, inr, ⊎_elim, arith}
+use Rattle.std.proofs.Common.{◌≡◌, ℕ, ◌-◌, ◌%◌, Bool, true, false, cond, ◌&&◌, ltb, ◌⊎◌, List, [], ◌∷◌, Some, None, Ok, Err, Option, Result, sym, refl, ap, ◌∙◌, subst, inl, inr, ⊎_elim, arith}
 use Rattle.std.specs.List.{AllByRecursion as All}
 use Rattle.std.specs.Str.{bytes_eq}
 use Rattle.std.proofs.lemmas.Slice.Eq.{bytes_eq-Decides}
@@ -12,16 +12,15 @@ use Rattle.meta.specs.Shape.{Good}
 use Rattle.meta.specs.Test.{is_good, passes, read_meta, newer}
 use Rattle.meta.specs.declared.Meta.{Meta}
 use Rattle.meta.proofs.Judged.{good_from}
-use Rattle.faults.specs.declared.fault.StoreFault.{StoreFault}
 use Rattle.faults.specs.declared.fault.StoreFault.TheVariants.{PageCount}
-use Rattle.paged.specs.Paged.{PagedTree, root_page, pages_of, tree_at}
+use Rattle.paged.specs.Paged.{PagedTree, pages_of, tree_at}
 use Rattle.paged.specs.Walk.{walked}
 use Rattle.paged.specs.Sound.{SoundOn}
 use Rattle.paged.proofs.Exactly.{walks_accept_sound_trees_lem}
 use Rattle.paged.proofs.Lying.{one_tree_lies_lem}
 use Rattle.walk.specs.Marking.{MarksAre}
 use Rattle.walk.specs.Checking.{fits_pages, newest_in, Holding, holding, held_by, powered, found_on}
-use Rattle.store.specs.Versions.{height_of, tree_of, pages_held, Stands, Committed}
+use Rattle.store.specs.Versions.{height_of, tree_of, pages_held, Committed}
 
 pub bad : {A : Type 0} → ◌≡◌ {A = ℕ} 0 1 → A
 bad e = let z : ⊥ = omega arith in absurd z

@@ -1,11 +1,10 @@
 -- What get and after hand out, by what their search found.
-use Rattle.std.proofs.Common.{◌≡◌, ℕ, ◌-◌, ◌<◌, Bool, true, false, List, [], ◌∷◌, Some, None, Ok, Err, Option, Result, sym, refl, ap, ◌∙◌, subst, arith}
-use Rattle.std.specs.List.{AllByRecursion as All}
+use Rattle.std.proofs.Common.{◌≡◌, ℕ, ◌<◌, Bool, true, false, List, Some, None, Ok, Err, Option, Result, sym, refl, ap, ◌∙◌, subst}
 use Rattle.std.proofs.ByRecursion.{All-weaker}
 use Rattle.device.specs.Medium.{Medium, zeros}
 use Rattle.device.specs.Calls.{Keeps}
-use Rattle.device.specs.History.{History, Leads}
-use Rattle.device.specs.Looking.{IsRead, Looks}
+use Rattle.device.specs.History.{History}
+use Rattle.device.specs.Looking.{Looks}
 use Rattle.device.specs.declared.fault.DeviceFault.TheVariants.{Off}
 use Rattle.device.proofs.Looking.{looks_none, reads_keep, same_pages}
 use Rattle.cuts.specs.Nodes.{Pair}
@@ -19,8 +18,8 @@ use Rattle.paged.specs.Sound.{Inside}
 use Rattle.paged.proofs.Accepted.{none_of}
 use Rattle.search.specs.Finding.{Answers, Standing, Finds, Searches, PlaceOf}
 use Rattle.search.specs.declared.Place.{Place}
-use Rattle.store.specs.Model.{Model, Stepped, looked, reads}
-use Rattle.store.specs.Reading.{version_of, InLeafOf, HandsOut, Hands, carried, shut_if_off}
+use Rattle.store.specs.Model.{looked, reads}
+use Rattle.store.specs.Reading.{version_of, Hands, carried, shut_if_off}
 use Rattle.store.specs.Versions.{height_of, tree_of, pages_held, pairs_held, Stands, Sound, model_of}
 use Rattle.store.specs.declared.state.State.{State}
 use Rattle.store.specs.declared.state.State.TheVariants.{Shut, Idle, InTransaction}

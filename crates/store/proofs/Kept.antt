@@ -1,11 +1,10 @@
 -- What versions keep when other pages change, and how the next one becomes the newest.
-use Rattle.std.proofs.Common.{◌≡◌, ℕ, zero, suc, ◌+◌, ◌-◌, ◌%◌, ◌<◌, ◌≤◌, Bool, true, false, cond, ltb, ◌⊎◌, List, [], ◌∷◌, ◌++◌, Some, None, Ok, Err, Option, Result, sym, refl, ap, ◌∙◌, subst, inl, inr, ⊎_elim, arith}
+use Rattle.std.proofs.Common.{◌≡◌, ℕ, zero, suc, ◌+◌, ◌%◌, ◌<◌, Bool, true, false, ltb, ◌⊎◌, List, [], ◌∷◌, Some, sym, ap, ◌∙◌, subst, inl, inr, ⊎_elim, arith}
 use Rattle.std.specs.List.{flat_map, AllByRecursion as All}
 use Rattle.std.proofs.ByRecursion.{All-weaker}
 use Rattle.std.proofs.lemmas.Bool.{lt-ltb, le-ltb, cases_eq}
-use Rattle.device.specs.Medium.{Medium, Durable}
-use Rattle.device.specs.Calls.{Keeps, KeepsBut, Writes, Syncs}
-use Rattle.device.proofs.Looking.{keeps_more}
+use Rattle.device.specs.Medium.{Medium}
+use Rattle.device.specs.Calls.{Keeps}
 use Rattle.tree.proofs.Leaves.{all_split, all_both}
 use Rattle.page.specs.Kinds.{leaf_rules, branch_rules}
 use Rattle.page.specs.Reading.{first_fault}
@@ -16,12 +15,11 @@ use Rattle.meta.specs.Shape.{Good}
 use Rattle.meta.specs.Test.{read_meta, newer}
 use Rattle.meta.specs.declared.Meta.{Meta}
 use Rattle.meta.proofs.Judged.{good_is, pages_read_back_lem}
-use Rattle.paged.specs.Paged.{PagedTree, root_page, children, pages_of, pairs_on, Lies, tree_at}
+use Rattle.paged.specs.Paged.{PagedTree, children, pages_of, pairs_on, Lies, tree_at}
 use Rattle.paged.specs.Sound.{SoundOn, Inside}
 use Rattle.paged.proofs.Lying.{one_tree_lies_lem}
 use Rattle.walk.specs.Marking.{MarksAre}
 use Rattle.walk.specs.Checking.{fits_pages, newest_in}
-use Rattle.store.specs.Sealing.{page_for}
 use Rattle.store.specs.Versions.{height_of, tree_of, pages_held, pairs_held, Stands, Committed}
 
 -- a tree on pages that keep their bytes

@@ -1,5 +1,5 @@
 -- An opening, by what its calls answer.
-use Rattle.std.proofs.Common.{◌≡◌, ℕ, ◌-◌, Bool, true, false, ◌⊎◌, List, [], ◌∷◌, ◌++◌, IfOk, Ok, Err, Result, sym, refl, ap, ◌∙◌, subst, inl, inr}
+use Rattle.std.proofs.Common.{◌≡◌, Bool, true, false, IfOk, Ok, Err, Result, sym, refl, ◌∙◌, subst, inl, inr}
 use Rattle.std.specs.List.{AllByRecursion as All}
 use Rattle.std.proofs.ByRecursion.{All-append, All-weaker}
 use Rattle.device.specs.Medium.{Medium}
@@ -14,19 +14,18 @@ use Rattle.meta.specs.declared.Meta.{Meta}
 use Rattle.faults.specs.Faults.{from_device}
 use Rattle.faults.specs.declared.fault.StoreFault.{StoreFault}
 use Rattle.faults.specs.declared.fault.StoreFault.TheVariants.{PageCount}
-use Rattle.paged.specs.Paged.{PagedTree, pages_of, pairs_on}
-use Rattle.walk.specs.Checking.{fits_pages, Holding, found_on, Recovers}
+use Rattle.walk.specs.Checking.{fits_pages, found_on, Recovers}
 use Rattle.walk.specs.declared.inspection.Recovered.{Recovered}
 use Rattle.store.specs.Acting.{Acts}
 use Rattle.store.specs.Calls.{Obeys}
 use Rattle.store.specs.Model.{opens}
-use Rattle.store.specs.Opening.{IsQuiet, map_in, map_on, Ready, Reopens}
-use Rattle.store.specs.Versions.{height_of, tree_of, pairs_held, Committed}
+use Rattle.store.specs.Opening.{IsQuiet, map_on, Ready, Reopens}
+use Rattle.store.specs.Versions.{Committed}
 use Rattle.store.specs.declared.state.State.{State}
 use Rattle.store.specs.declared.state.State.TheVariants.{Shut, Idle, InTransaction}
 use Rattle.store.specs.declared.state.Held.{Held}
 use Rattle.store.proofs.Acting.{acts_none, acts_one, acts_more, acts_looks, acts_weaker}
-use Rattle.store.proofs.Found.{found_tells, found_committed}
+use Rattle.store.proofs.Found.{found_committed}
 
 found_same : (m n : Medium) (on : Bool) → Keeps m n → found_on n.bytes n.size on ≡ found_on m.bytes m.size on
 found_same m n on k = λ i. found_on (same_pages k i) (k.same_size i) on

@@ -1,5 +1,5 @@
 -- The calls by which a version is made durable.
-use Rattle.std.proofs.Common.{◌≡◌, ℕ, ◌⊎◌, List, [], ◌∷◌, ◌++◌, Ok, Err, Result, refl, ap, ◌∙◌, inl, inr}
+use Rattle.std.proofs.Common.{◌≡◌, [], ◌∷◌, ◌++◌, Ok, Err, Result, refl, inl, inr}
 use Rattle.device.specs.Medium.{Medium}
 use Rattle.device.specs.Calls.{Writes, Syncs}
 use Rattle.device.specs.History.{History, Happens, step, did_write, did_sync}

@@ -1,5 +1,5 @@
 -- Stretches of calls of a device.
-use Rattle.std.specs.Prelude.{ℕ, List, [], ◌∷◌, ◌++◌, map}
+use Rattle.std.specs.Prelude.{List, ◌++◌, map}
 use Rattle.std.specs.List.{AllByRecursion as All}
 use Rattle.device.specs.Medium.{Medium}
 use Rattle.device.specs.History.{Event, Step, History, Leads, Allowed}

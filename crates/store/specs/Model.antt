@@ -1,6 +1,6 @@
 -- The store as an ordered map with its transactions. What power does to a call is an input of its step: `on` says whether
 -- the device is on when the call ends.
-use Rattle.std.specs.Prelude.{ℕ, ◌+◌, ◌^◌, Bool, true, false, cond, List, Some, None, Ok, Err, Option, Result, ◌==◌}
+use Rattle.std.specs.Prelude.{ℕ, ◌+◌, Bool, true, false, cond, List, Some, None, Ok, Err, Option, Result, ◌==◌}
 use Rattle.device.specs.declared.fault.DeviceFault.TheVariants.{Off as DeviceOff}
 use Rattle.cuts.specs.Nodes.{Pair}
 use Rattle.page.specs.declared.fault.PageFault.TheVariants.{Device}

@@ -1,5 +1,5 @@
 -- How a version is made durable: what was written before it, then its meta page.
-use Rattle.std.specs.Prelude.{◌≡◌, ℕ, ◌%◌, ◌⊎◌, List, [], ◌∷◌, Ok, Err, Result}
+use Rattle.std.specs.Prelude.{◌≡◌, ℕ, ◌%◌, ◌⊎◌, [], ◌∷◌, Ok, Err, Result}
 use Rattle.device.specs.Medium.{Medium}
 use Rattle.device.specs.Calls.{Writes, Syncs}
 use Rattle.device.specs.History.{History, step, did_write, did_sync}

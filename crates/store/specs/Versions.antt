@@ -1,5 +1,5 @@
 -- Versions of the tree on the device, and sound stores.
-use Rattle.std.specs.Prelude.{◌≡◌, ℕ, suc, ◌+◌, ◌-◌, ◌%◌, ◌<◌, Bool, true, false, List, Some}
+use Rattle.std.specs.Prelude.{◌≡◌, ℕ, ◌+◌, ◌-◌, ◌%◌, Bool, true, false, List, Some}
 use Rattle.std.specs.List.{AllByRecursion as All}
 use Rattle.device.specs.Medium.{Medium}
 use Rattle.cuts.specs.Nodes.{Pair}
@@ -11,7 +11,7 @@ use Rattle.paged.specs.Paged.{PagedTree, pages_of, pairs_on, tree_at}
 use Rattle.paged.specs.Sound.{SoundOn}
 use Rattle.walk.specs.Marking.{MarksAre}
 use Rattle.walk.specs.Checking.{fits_pages, newest_in}
-use Rattle.store.specs.Model.{Model, shut, idle, active, last_number}
+use Rattle.store.specs.Model.{Model, shut, idle, active}
 use Rattle.store.specs.declared.state.State.{State}
 use Rattle.store.specs.declared.state.State.TheVariants.{Shut, Idle, InTransaction}
 use Rattle.store.specs.declared.state.Held.{Held}

@@ -1,10 +1,10 @@
 -- What loading a page finds, and the test of the page in its place after that.
-use Rattle.std.proofs.Common.{◌≡◌, ℕ, List, Some, None, Ok, Err, Option, Result, sym, refl, ap, ◌∙◌}
+use Rattle.std.proofs.Common.{◌≡◌, ℕ, List, Some, None, Ok, Err, Option, refl, ap, ◌∙◌}
 use Rattle.device.specs.Medium.{Medium}
 use Rattle.device.specs.History.{History}
 use Rattle.tree.specs.Search.{or_else}
 use Rattle.page.specs.Kinds.{Rules}
-use Rattle.page.specs.Loads.{Loads, OneRead}
+use Rattle.page.specs.Loads.{Loads}
 use Rattle.page.specs.Reading.{first_fault}
 use Rattle.page.specs.declared.fault.Cause.{Cause}
 use Rattle.page.specs.declared.fault.PageFault.{PageFault}

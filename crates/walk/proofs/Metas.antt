@@ -1,11 +1,11 @@
 -- Reading both meta pages.
-use Rattle.std.proofs.Common.{◌≡◌, ℕ, ◌<◌, ◌≤◌, Bool, true, false, cond, ◌&&◌, eqb, ltb, leb, List, [], ◌∷◌, ◌++◌, IfSome, Some, None, Ok, Err, Option, Result, sym, refl, ap, ◌∙◌, arith}
+use Rattle.std.proofs.Common.{◌≡◌, ℕ, ◌<◌, ◌≤◌, Bool, true, false, cond, ◌&&◌, ltb, List, [], ◌∷◌, ◌++◌, IfSome, Some, None, Ok, Err, Option, refl, ap, ◌∙◌, arith}
 use Rattle.std.specs.Str.{bytes_eq}
 use Rattle.std.proofs.lemmas.Bool.{and_parts}
 use Rattle.std.proofs.lemmas.Bool.Decides.{nat_tests}
 use Rattle.device.specs.Medium.{Medium}
 use Rattle.device.specs.Calls.{Reads}
-use Rattle.device.specs.History.{History, Happens, did_read, step}
+use Rattle.device.specs.History.{History, Happens, did_read}
 use Rattle.device.specs.Looking.{Looks, pages_read}
 use Rattle.device.specs.declared.fault.DeviceFault.{DeviceFault}
 use Rattle.device.specs.declared.fault.DeviceFault.TheVariants.{Outside, Off}
@@ -13,7 +13,7 @@ use Rattle.device.proofs.Looking.{looks_one, looks_more}
 use Rattle.meta.specs.Layout.{meta_page, meta_in}
 use Rattle.meta.specs.Test.{is_good, passes, read_meta, newer}
 use Rattle.meta.specs.declared.Meta.{Meta}
-use Rattle.walk.specs.Checking.{Newest, Rooted, newest_in}
+use Rattle.walk.specs.Checking.{Newest, Rooted}
 
 -- a meta that passes its test has its root among the tree's pages
 rooted : (at size : ℕ) (x : Meta) → is_good at size x ≡ true → Rooted size x

@@ -1,12 +1,12 @@
 -- The slots of a branch by the number of the child.
-use Rattle.std.proofs.Common.{◌≡◌, ℕ, zero, suc, ◌+◌, ◌<◌, ◌≤◌, Bool, true, false, cond, ltb, leb, List, [], ◌∷◌, length, drop, Some, None, Option, sym, refl, ap, ◌∙◌, add-one, arith, length-drop}
+use Rattle.std.proofs.Common.{◌≡◌, ℕ, zero, suc, ◌+◌, ◌<◌, ◌≤◌, cond, ltb, leb, List, [], ◌∷◌, length, drop, Some, None, sym, refl, ap, ◌∙◌, add-one, arith, length-drop}
 use Rattle.std.proofs.lemmas.List.{drop_all}
 use Rattle.std.proofs.lemmas.Bool.Decides.{nat_tests}
 use Rattle.cuts.specs.Nodes.{Cell}
 use Rattle.tree.specs.Places.{separator_at}
 use Rattle.tree.specs.Search.{child_at}
 use Rattle.tree.specs.Sound.{Bound, before}
-use Rattle.paged.specs.Walk.{Slot, slot, slots}
+use Rattle.paged.specs.Walk.{slot, slots}
 use Rattle.walk.specs.Spots.{low_at, high_at}
 
 module _ {X : Type 0} where

@@ -1,13 +1,11 @@
 -- One call of the walk, step by step: a page, then its children from the left.
 use Rattle.std.proofs.Common.{◌≡◌, ℕ, zero, suc, ◌+◌, ◌-◌, ◌*◌, ◌<◌, ◌≤◌, Bool, true, false, cond, eqb, ltb, ◌≢◌, List, [], ◌∷◌, ◌++◌, length, get_or, set, Some, None, Ok, Err, Option, Result, sym, refl, ap, ◌∙◌, subst, append_assoc, arith, get_or-set_other, get_or-set_same}
-use Rattle.std.specs.List.{AllByRecursion as All}
 use Rattle.std.proofs.lemmas.Bool.Decides.{nat_tests}
 use Rattle.std.proofs.lemmas.List.Sums.{sum_by-set}
 use Rattle.device.specs.Medium.{Medium}
 use Rattle.device.specs.Calls.{Reads}
-use Rattle.device.specs.History.{History, Leads, did_read, step}
-use Rattle.device.specs.Looking.{IsRead, Looks, pages_read}
-use Rattle.device.specs.declared.fault.DeviceFault.{DeviceFault}
+use Rattle.device.specs.History.{History, did_read, step}
+use Rattle.device.specs.Looking.{Looks, pages_read}
 use Rattle.device.specs.declared.fault.DeviceFault.TheVariants.{Outside, Off}
 use Rattle.device.proofs.Looking.{looks_none, looks_one, looks_more, reads_keep, same_pages, pages_read_append}
 use Rattle.tree.specs.Sound.{Bound}
@@ -15,7 +13,6 @@ use Rattle.page.specs.Loads.{OneRead}
 use Rattle.page.specs.Views.{pairs_in, branch_in}
 use Rattle.page.specs.declared.fault.Cause.{Cause}
 use Rattle.page.specs.declared.fault.Cause.TheVariants.{Child}
-use Rattle.page.specs.declared.fault.Damage.{Damage}
 use Rattle.page.specs.declared.fault.PageFault.{PageFault}
 use Rattle.page.specs.declared.fault.PageFault.TheVariants.{Device, Damaged}
 use Rattle.paged.specs.Walk.{leaf_fault, branch_fault, Slot, slots_of, elem, admits, damage, Walked, fault, fine, then, along, walk}

@@ -1,29 +1,26 @@
 -- The walk of a whole tree, and the recovery of a device.
-use Rattle.std.proofs.Common.{◌≡◌, ℕ, ◌+◌, ◌-◌, ◌<◌, ◌≤◌, Bool, true, false, cond, ◌&&◌, ◌||◌, eqb, leb, List, [], ◌∷◌, ◌++◌, reverse, get_or, Some, None, Ok, Err, Option, Result, sym, refl, ap, ◌∙◌, subst, arith}
+use Rattle.std.proofs.Common.{◌≡◌, ℕ, ◌-◌, ◌≤◌, Bool, true, false, ◌||◌, List, [], ◌∷◌, ◌++◌, reverse, get_or, Some, Ok, Err, Result, sym, refl, ap, ◌∙◌, subst, arith}
 use Rattle.std.proofs.lemmas.List.{append-nil, append_assoc, reverse-append}
-use Rattle.std.proofs.lemmas.Bool.{ne_eqb, eq-eqb, and_from, le-leb, and_left, and_right, lt-leb}
+use Rattle.std.proofs.lemmas.Bool.{ne_eqb, eq-eqb}
 use Rattle.std.proofs.lemmas.Bool.Decides.{nat_tests}
 use Rattle.device.specs.Medium.{Medium}
 use Rattle.device.specs.History.{History}
 use Rattle.device.specs.Looking.{Looks, pages_read}
-use Rattle.device.specs.declared.fault.DeviceFault.{DeviceFault}
 use Rattle.device.specs.declared.fault.DeviceFault.TheVariants.{Off}
-use Rattle.device.proofs.Looking.{looks_none, looks_more, reads_keep, same_pages, pages_read_append}
+use Rattle.device.proofs.Looking.{looks_more, reads_keep, same_pages, pages_read_append}
 use Rattle.tree.specs.Sound.{none}
 use Rattle.page.specs.declared.fault.Cause.TheVariants.{PairCount}
 use Rattle.page.specs.declared.fault.Damage.{Damage}
 use Rattle.page.specs.declared.fault.PageFault.{PageFault}
 use Rattle.page.specs.declared.fault.PageFault.TheVariants.{Device, Damaged}
 use Rattle.meta.specs.declared.Meta.{Meta}
-use Rattle.faults.specs.declared.fault.StoreFault.{StoreFault}
-use Rattle.faults.specs.declared.fault.StoreFault.TheVariants.{Page, NoMeta, PageCount as WrongCount}
+use Rattle.faults.specs.declared.fault.StoreFault.TheVariants.{Page}
 use Rattle.paged.specs.Paged.{PagedTree, pages_of, tree_at}
 use Rattle.paged.specs.Walk.{elem, damage, Walked, fault, fine, walk, counted, walked}
 use Rattle.paged.proofs.Judged.{Judged, onto, below, judged_walk, pages_found}
 use Rattle.walk.specs.Marking.{MarksAre}
-use Rattle.walk.specs.Walking.{answer, Left, Told, Walks}
-use Rattle.walk.specs.Checking.{fits_pages, newest_in, Holding, holding, held_by, powered, found_on, Recovers, Newest, verdict, WalksTree}
-use Rattle.walk.specs.declared.inspection.Recovered.{Recovered}
+use Rattle.walk.specs.Walking.{answer, Told, Walks}
+use Rattle.walk.specs.Checking.{fits_pages, newest_in, holding, powered, found_on, Recovers, Newest, verdict, WalksTree}
 use Rattle.walk.specs.declared.marks.Marks.{Marks}
 
 -- the pages met are those of the tree, the last first

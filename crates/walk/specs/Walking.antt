@@ -8,7 +8,6 @@ use Rattle.page.specs.Loads.{OneRead}
 use Rattle.page.specs.declared.leaf.LeafPage.{LeafPage}
 use Rattle.page.specs.declared.branch.BranchPage.{BranchPage}
 use Rattle.page.specs.declared.fault.Cause.{Cause}
-use Rattle.page.specs.declared.fault.Damage.{Damage}
 use Rattle.page.specs.declared.fault.PageFault.{PageFault}
 use Rattle.page.specs.declared.fault.PageFault.TheVariants.{Device, Damaged}
 use Rattle.paged.specs.Walk.{damage, Walked, fault, fine}

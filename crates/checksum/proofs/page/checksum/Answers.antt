@@ -1,6 +1,4 @@
-use Rattle.std.proofs.Common.{◌≡◌, ℕ, length, take, drop, ap, ◌∙◌, arith, rules}
-use Rattle.std.proofs.lemmas.List.{take_rest}
-use Rattle.checksum.specs.Crc.{crc_from}
+use Rattle.std.proofs.Common.{◌≡◌, length, rules}
 use Rattle.checksum.proofs.Parts.{by_parts, rest}
 use Rattle.checksum.proofs.page.checksum.Goals as goal
 

@@ -1,4 +1,4 @@
-use Rattle.std.proofs.Common.{refl, rules}
+use Rattle.std.proofs.Common.{rules}
 use Rattle.std.proofs.lemmas.List.{drop-drop}
 use Rattle.checksum.specs.Bytes.{over}
 use Rattle.page.proofs.bytes.put.Goals as goal

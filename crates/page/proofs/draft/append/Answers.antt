@@ -1,4 +1,4 @@
-use Rattle.std.proofs.Common.{ℕ, ◌-◌, [], ◌∷◌, ◌++◌, length, arith}
+use Rattle.std.proofs.Common.{◌-◌, [], ◌∷◌, ◌++◌, length, arith}
 use Rattle.page.specs.Layout.{Shows, cells_of, left_of, sum_of}
 use Rattle.page.proofs.Pages.{append_page, cost_append, cost_one, laid_from, leftmost_is, sum_is, cells_are}
 use Rattle.page.proofs.Costs.{cost_appended}

@@ -1,4 +1,4 @@
-use Rattle.std.proofs.Common.{◌≡◌, ℕ, ◌+◌, sym, ap, ◌∙◌, arith}
+use Rattle.std.proofs.Common.{◌+◌, arith}
 use Rattle.page.specs.Layout.{cells_of, cell_in}
 use Rattle.page.proofs.Pages.{edge_is, top_more, cell_in_lem}
 use Rattle.page.proofs.draft.cell_at.Goals as goal

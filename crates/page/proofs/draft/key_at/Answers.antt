@@ -1,4 +1,4 @@
-use Rattle.std.proofs.Common.{◌≡◌, ap, ◌∙◌}
+use Rattle.std.proofs.Common.{ap, ◌∙◌}
 use Rattle.page.specs.Layout.{cells_of}
 use Rattle.page.proofs.Tested.{every_at}
 use Rattle.page.proofs.draft.key_at.Goals as goal

@@ -1,7 +1,7 @@
-use Rattle.std.proofs.Common.{◌≡◌, ℕ, ◌+◌, length, drop, sym, ap, ◌∙◌, zero-add, arith}
+use Rattle.std.proofs.Common.{◌+◌, length, drop, ap, ◌∙◌, arith}
 use Rattle.cuts.specs.Cuts.{total, middle}
 use Rattle.page.specs.Splices.{cells_in, body_cost}
-use Rattle.page.proofs.Cuts.{cost_total, total_step, total_end, middle_more, middle_stop, middle_end}
+use Rattle.page.proofs.Cuts.{cost_total, total_step, middle_more, middle_stop, middle_end}
 use Rattle.page.proofs.edit.branch_cut.Goals as goal
 
 pub overflow_add-left-in-loop-i : goal.overflow_add-left-in-loop-i

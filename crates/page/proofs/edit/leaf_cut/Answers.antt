@@ -1,7 +1,7 @@
-use Rattle.std.proofs.Common.{◌≡◌, ℕ, ◌+◌, ◌≤◌, length, drop, sym, ap, ◌∙◌, zero-add, arith}
-use Rattle.cuts.specs.Cuts.{total, fair}
+use Rattle.std.proofs.Common.{◌+◌, length, drop, ap, ◌∙◌, zero-add, arith}
+use Rattle.cuts.specs.Cuts.{fair}
 use Rattle.page.specs.Splices.{cells_in, body_cost}
-use Rattle.page.proofs.Cuts.{cost_total, total_step, total_end, fair_more, fair_stop, fair_end}
+use Rattle.page.proofs.Cuts.{cost_total, total_step, fair_more, fair_stop, fair_end}
 use Rattle.page.proofs.edit.leaf_cut.Goals as goal
 
 pub loop-i-init : goal.loop-i-init

@@ -1,7 +1,7 @@
-use Rattle.std.proofs.Common.{◌≡◌, ℕ, ◌+◌, ◌<◌, length, sym, ap, ◌∙◌, arith, rules}
+use Rattle.std.proofs.Common.{◌≡◌, ◌<◌, length, sym, ap, ◌∙◌, arith, rules}
 use Rattle.std.proofs.lemmas.Bool.{true≢false}
 use Rattle.page.specs.Layout.{cells_of}
-use Rattle.page.proofs.Tested.{Bytes, not_laid, every_at, part_is, edges_down, edge_low, packed_none, packed_more}
+use Rattle.page.proofs.Tested.{not_laid, every_at, part_is, edges_down, edge_low, packed_none, packed_more}
 use Rattle.page.proofs.test.is_packed.Goals as goal
 
 pub loop-i-init : goal.loop-i-init

@@ -1,4 +1,4 @@
-use Rattle.std.proofs.Common.{◌≡◌, ℕ, ◌+◌, ◌-◌, ◌<◌, true, false, ◌&&◌, [], length, get_or, drop, sym, refl, ap, ◌∙◌, arith}
+use Rattle.std.proofs.Common.{◌≡◌, ◌+◌, ◌-◌, true, false, ◌&&◌, [], get_or, drop, sym, ap, ◌∙◌, arith}
 use Rattle.cuts.specs.Keys.{key<}
 use Rattle.page.specs.Layout.{cells_of}
 use Rattle.page.specs.Reading.{rising}

@@ -1,7 +1,5 @@
-use Rattle.std.proofs.Common.{◌≡◌, true, false, eqb, get_or, sym, refl, ap, ◌∙◌, arith}
+use Rattle.std.proofs.Common.{sym, ◌∙◌}
 use Rattle.std.proofs.lemmas.Bool.{ne_eqb, eq-eqb}
-use Rattle.page.specs.Layout.{cells_of}
-use Rattle.page.specs.Reading.{layout}
 use Rattle.page.proofs.Tested.{good_from}
 use Rattle.page.proofs.Faults.{shape_kind, shape_layout, shape_order, shape_none}
 use Rattle.page.proofs.test.shape_fault.Goals as goal

@@ -1,4 +1,4 @@
-use Rattle.std.proofs.Common.{◌≡◌, ℕ, ◌+◌, ◌*◌, ◌<◌, ◌≤◌, Bool, true, List, [], ◌∷◌, ◌++◌, length, drop, Result, sym, ap, ◌∙◌, subst, arith, length-drop}
+use Rattle.std.proofs.Common.{◌≡◌, ℕ, ◌+◌, ◌*◌, ◌<◌, ◌≤◌, Bool, List, [], ◌∷◌, ◌++◌, length, drop, Result, sym, ap, ◌∙◌, subst, arith, length-drop}
 use Rattle.std.proofs.lemmas.Result.{err_from_is_err_and}
 use Rattle.std.proofs.lemmas.List.Sums.{count_by-le-length}
 use Rattle.device.specs.Medium.{Medium}
@@ -11,7 +11,7 @@ use Rattle.paged.specs.Walk.{leaf_fault, branch_fault, slots_of, walk}
 use Rattle.paged.proofs.Accepted.{none_of, leaf_has, branch_has}
 use Rattle.walk.specs.Marking.{MarksAre, marked}
 use Rattle.walk.specs.Spots.{low_of, high_of, slot_of}
-use Rattle.walk.specs.Walking.{leaf_bytes, branch_bytes, Told, Walks}
+use Rattle.walk.specs.Walking.{leaf_bytes, branch_bytes, Told}
 use Rattle.walk.proofs.Slots.{length_slots, drop_none}
 use Rattle.walk.proofs.Steps.{Going, Ends, below, marked_more, leaf_fault_lem, branch_fault_lem, walks_err, walks_leaf, going_none, going_more, going_broken, going_refused, going_done, begun}
 use Rattle.walk.proofs.descent.+walk_from.Goals as goal

@@ -1,4 +1,4 @@
-use Rattle.std.proofs.Common.{◌≡◌, false, length, replicate, vec_items, sym, ap, ◌∙◌}
+use Rattle.std.proofs.Common.{false, length, sym, ap, ◌∙◌}
 use Rattle.std.proofs.lemmas.List.{length-replicate}
 use Rattle.device.specs.Medium.{zeros}
 use Rattle.disks.proofs.write_behind.WriteBehind.new.Goals as goal

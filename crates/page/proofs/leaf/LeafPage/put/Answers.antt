@@ -1,6 +1,5 @@
 use Rattle.std.proofs.Common.{◌≡◌, ℕ, ◌≤◌, true, List, length, sym, ap, ◌∙◌, subst, arith}
 use Rattle.std.proofs.lemmas.List.{length-map}
-use Rattle.cuts.specs.Nodes.{Pair}
 use Rattle.tree.specs.Maps.{pair, Rising}
 use Rattle.tree.proofs.Insertion.{insert_rising}
 use Rattle.page.specs.Growths.{fitted}

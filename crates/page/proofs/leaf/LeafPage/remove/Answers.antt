@@ -1,4 +1,4 @@
-use Rattle.std.proofs.Common.{sym, ap, ◌∙◌, subst}
+use Rattle.std.proofs.Common.{sym, ◌∙◌, subst}
 use Rattle.tree.specs.Maps.{Rising}
 use Rattle.tree.proofs.Insertion.{delete_rising}
 use Rattle.page.specs.Layout.{cells_of}

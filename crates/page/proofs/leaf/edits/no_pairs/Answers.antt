@@ -1,4 +1,4 @@
-use Rattle.std.proofs.Common.{eqb, map, refl, ap, ◌∙◌}
+use Rattle.std.proofs.Common.{eqb, map, ap, ◌∙◌}
 use Rattle.page.specs.Kinds.{leaf_good, leaf_key, leaf_rules, pair_of}
 use Rattle.page.specs.Layout.{cells_of, left_of}
 use Rattle.page.specs.Reading.{every, rising}

@@ -1,4 +1,4 @@
-use Rattle.std.proofs.Common.{refl, ◌∙◌, arith}
+use Rattle.std.proofs.Common.{refl, arith}
 use Rattle.std.proofs.lemmas.Result.{err_from_is_err_and}
 use Rattle.paged.specs.Walk.{elem}
 use Rattle.walk.proofs.Trees.{tree_broken, tree_miscounted, tree_walked}
