@@ -1,7 +1,7 @@
 -- What holds of separators and cuts. The cuts are stated over u usable bytes and cells of at most m, and then for
 -- the cells that there are.
 use Rattle.std.specs.Prelude.{◌≡◌, ℕ, suc, ◌+◌, ◌*◌, ◌<◌, ◌≤◌, max, List, length, take, drop}
-use Rattle.std.specs.List.{AllByRecursion as All}
+use Rattle.std.specs.List.{AllByRecursion}
 use Rattle.cuts.specs.Keys.{Below, AtMost, separator}
 use Rattle.cuts.specs.Nodes.{Pair, Cell, PairFits, CellFits, pair_cost, cell_cost}
 use Rattle.cuts.specs.Cuts.{total, fair, middle}
@@ -38,12 +38,12 @@ abbrev pub branch_cut : List ℕ → ℕ
 branch_cut costs = middle (λ c. c) (sum costs) 0 costs
 
 abbrev pub LeafCutsFit : Type 0
-LeafCutsFit = (u m : ℕ) (costs : List ℕ) → All (λ c. c ≤ m) costs
+LeafCutsFit = (u m : ℕ) (costs : List ℕ) → AllByRecursion (λ c. c ≤ m) costs
     → m + 2 * quarter_of u ≤ sum costs → sum costs + m ≤ suc (2 * u)
     → LeafPartsFit (λ c. c) u costs (leaf_cut costs)
 
 abbrev pub BranchCutsFit : Type 0
-BranchCutsFit = (u m : ℕ) (costs : List ℕ) → All (λ c. c ≤ m) costs
+BranchCutsFit = (u m : ℕ) (costs : List ℕ) → AllByRecursion (λ c. c ≤ m) costs
     → 0 < sum costs → 2 * m + 2 * quarter_of u ≤ sum costs → sum costs ≤ suc (2 * u)
     → BranchPartsFit (λ c. c) u costs (branch_cut costs)
 
@@ -56,13 +56,13 @@ BranchCutsAreJustPastHalf = (costs : List ℕ) → 0 < sum costs
 -- A leaf's list that is overfull by at most one cell, as an edit leaves it, or by less than a quarter, as a join
 -- does.
 abbrev pub OverfullLeafIsCut : ℕ → Type 0
-OverfullLeafIsCut u = (ps : List Pair) → All PairFits ps
+OverfullLeafIsCut u = (ps : List Pair) → AllByRecursion PairFits ps
     → u < total pair_cost ps → total pair_cost ps ≤ u + max largest_pair (quarter_of u)
     → LeafPartsFit pair_cost u ps (fair pair_cost 0 ps)
 
 -- The same for a branch: the costliest list is an underfull one joined with a full one, the separator between them.
 abbrev pub OverfullBranchIsCut : ℕ → Type 0
-OverfullBranchIsCut u = (cs : List (Cell ℕ)) → All CellFits cs
+OverfullBranchIsCut u = (cs : List (Cell ℕ)) → AllByRecursion CellFits cs
     → u < total cell_cost cs → total cell_cost cs < u + quarter_of u + largest_cell
     → BranchPartsFit cell_cost u cs (middle cell_cost (total cell_cost cs) 0 cs)
 
@@ -85,4 +85,4 @@ LeafCutsAreFairest = (ps : List Pair) (j : ℕ)
 -- a branch that is not underfull has two cells, and so three children
 abbrev pub FilledBranchesHaveTwoCells : Type 0
 FilledBranchesHaveTwoCells = (u : ℕ) → largest_cell < quarter_of u
-    → (cs : List (Cell ℕ)) → All CellFits cs → quarter_of u ≤ total cell_cost cs → 2 ≤ length cs
+    → (cs : List (Cell ℕ)) → AllByRecursion CellFits cs → quarter_of u ≤ total cell_cost cs → 2 ≤ length cs

@@ -1,6 +1,6 @@
 -- What reads keep, and how stretches of them are put together.
 use Rattle.std.proofs.Common.{◌≡◌, ℕ, List, [], ◌∷◌, ◌++◌, Ok, Err, Result, sym, refl, ap, ◌∙◌, subst, append_assoc}
-use Rattle.std.specs.List.{AllByRecursion as All}
+use Rattle.std.specs.List.{AllByRecursion}
 use Rattle.std.proofs.ByRecursion.{All-append}
 use Rattle.device.specs.Medium.{Medium}
 use Rattle.device.specs.Calls.{Keeps, Reads}
@@ -30,7 +30,7 @@ read_keeps m p b (Err Outside) n r = subst (Keeps m) (sym r.2) (keeps_same m)
 read_keeps m p b (Err Off) n r = r.3
 
 -- reads that lead from m to n
-pub reads_keep : (m : Medium) (t : History) (n : Medium) → Leads m t n → All IsRead t → Keeps m n
+pub reads_keep : (m : Medium) (t : History) (n : Medium) → Leads m t n → AllByRecursion IsRead t → Keeps m n
 reads_keep m [] n l a = subst (Keeps m) (sym l) (keeps_same m)
 reads_keep m (s ∷ t) n l a =
     let k = reads_keep m t s.before l.1 a.1 in
@@ -58,7 +58,7 @@ looks_one F p b a r f =
 
 pub looks_more : {P : History → Type 0} {m : Medium} {Q : History → Type 0} {n : Medium} {R : History → Type 0} {o : Medium} (F G H : History → Type 0)
     → Looks P m Q n F → Looks Q n R o G
-    → ((t u : History) → Leads m t n → All IsRead t → Leads n u o → All IsRead u → F t → G u → H (u ++ t))
+    → ((t u : History) → Leads m t n → AllByRecursion IsRead t → Leads n u o → AllByRecursion IsRead u → F t → G u → H (u ++ t))
     → Looks P m R o H
 looks_more {P} {m} {Q} {n} {R} {o} F G H k l f = record {
   follows = λ h i.

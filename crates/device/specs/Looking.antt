@@ -1,6 +1,6 @@
 -- Stretches of calls that only read.
 use Rattle.std.specs.Prelude.{◌≡◌, ℕ, List, [], ◌∷◌, ◌++◌, Result}
-use Rattle.std.specs.List.{AllByRecursion as All}
+use Rattle.std.specs.List.{AllByRecursion}
 use Rattle.device.specs.Medium.{Medium}
 use Rattle.device.specs.Calls.{Reads}
 use Rattle.device.specs.History.{Event, did_read, did_write, did_sync, power_returned, Step, History, Leads}
@@ -14,7 +14,7 @@ IsRead s =
 -- Whichever history led to the medium m, reads lead from it to the medium n, and F holds of them. P are the
 -- histories that may have been the device's before them, and Q those that may be its own after them.
 pub record Looks (P : History → Type 0) (m : Medium) (Q : History → Type 0) (n : Medium) (F : History → Type 0) : Type 0 where
-  pub follows : (h : History) → P h → (t : History) × Q (t ++ h) × Leads m t n × All IsRead t × F t
+  pub follows : (h : History) → P h → (t : History) × Q (t ++ h) × Leads m t n × AllByRecursion IsRead t × F t
 
 -- the pages that were read, the last first
 abbrev pub read_in : Event → List ℕ

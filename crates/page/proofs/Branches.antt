@@ -1,6 +1,6 @@
 -- The cells of a branch, and a branch's list as one node or two.
 use Rattle.std.proofs.Common.{◌≡◌, ℕ, suc, ◌+◌, ◌*◌, ◌<◌, ◌≤◌, true, cond, ltb, List, [], ◌∷◌, map, length, get_or, take, drop, sym, refl, ap, ◌∙◌, add-one, arith}
-use Rattle.std.specs.List.{between, AllByRecursion as All}
+use Rattle.std.specs.List.{between, AllByRecursion}
 use Rattle.std.proofs.lemmas.List.{length-drop, length-map, drop_more}
 use Rattle.std.proofs.lemmas.Slice.{between_to_end}
 use Rattle.std.proofs.lemmas.Bool.{and_parts, leb-true, eqb-true, le-leb, lt-leb}
@@ -70,7 +70,7 @@ middle_cells t a (x ∷ xs) h =
     ap (λ n. cond (ltb t (2 * (a + n))) 0 (suc (middle cell_cost t (a + n) (map cell_of xs)))) c
     ∙ ap (λ n. cond (ltb t (2 * (a + body_cost x))) 0 (suc n)) r
 
-small_cells : (xs : List (List ℕ)) → every branch_good xs ≡ true → All (λ (b : List ℕ). body_cost b ≤ 72) xs
+small_cells : (xs : List (List ℕ)) → every branch_good xs ≡ true → AllByRecursion (λ (b : List ℕ). body_cost b ≤ 72) xs
 small_cells [] h = tt
 small_cells (x ∷ xs) h = let p = and_parts _ _ h in let q = branch_parts_of x p.0 in (omega (arith, q.long, q.short), small_cells xs p.1)
 

@@ -1,7 +1,7 @@
 -- Each list of cells has exactly one page that reading accepts.
 use Rattle.std.proofs.Common.{◌≡◌, ℕ, zero, suc, ◌-◌, ◌*◌, ◌/◌, ◌%◌, ◌^◌, ◌<◌, true, not, List, [], ◌∷◌, ◌++◌, length, is_some, Some, None, Option, sym, refl, ap, ◌∙◌, arith}
 use lib.Bits.{bit_xor, xor_lt}
-use Rattle.std.specs.List.{AllByRecursion as All}
+use Rattle.std.specs.List.{AllByRecursion}
 use Rattle.std.proofs.lemmas.Slice.Eq.{bytes_eq-Decides}
 use Rattle.std.proofs.lemmas.Bool.{false≢true}
 use Rattle.checksum.specs.Bytes.{le16, le32}
@@ -23,46 +23,46 @@ steps_small : (n r : ℕ) → r < 2 ^ 32 → steps n r < 2 ^ 32
 steps_small zero r h = h
 steps_small (suc n) r h = steps_small n (step r) (step_small r h)
 
-from_small : (r : ℕ) (bs : List ℕ) → r < 2 ^ 32 → All Byte bs → crc_from r bs < 2 ^ 32
+from_small : (r : ℕ) (bs : List ℕ) → r < 2 ^ 32 → AllByRecursion Byte bs → crc_from r bs < 2 ^ 32
 unfolding crc_from
 from_small r [] h a = h
 from_small r (b ∷ bs) h a = from_small (steps 8 (bit_xor r b)) bs (steps_small 8 (bit_xor r b) (xor_lt 32 r b h (omega (arith, a.0)))) a.1
 
-crc_small : (bs : List ℕ) → All Byte bs → crc_of bs < 2 ^ 32
+crc_small : (bs : List ℕ) → AllByRecursion Byte bs → crc_of bs < 2 ^ 32
 unfolding crc_of
 crc_small bs a = xor_lt 32 (crc_from 0xFFFFFFFF bs) 0xFFFFFFFF (from_small 0xFFFFFFFF bs (omega arith) a) (omega arith)
 
 -- a page of bytes
-all_append : (xs ys : List ℕ) → All Byte xs → All Byte ys → All Byte (xs ++ ys)
+all_append : (xs ys : List ℕ) → AllByRecursion Byte xs → AllByRecursion Byte ys → AllByRecursion Byte (xs ++ ys)
 all_append [] ys a b = b
 all_append (x ∷ xs) ys a b = (a.0, all_append xs ys a.1 b)
 
-bytes16 : (x : ℕ) → All Byte (le16 x)
+bytes16 : (x : ℕ) → AllByRecursion Byte (le16 x)
 bytes16 x = (omega arith, (omega arith, tt))
 
-bytes32 : (x : ℕ) → All Byte (le32 x)
+bytes32 : (x : ℕ) → AllByRecursion Byte (le32 x)
 bytes32 x = (omega arith, (omega arith, (omega arith, (omega arith, tt))))
 
-offsets_bytes : (top : ℕ) (cells : List (List ℕ)) → All Byte (offsets top cells)
+offsets_bytes : (top : ℕ) (cells : List (List ℕ)) → AllByRecursion Byte (offsets top cells)
 unfolding offsets
 offsets_bytes top [] = tt
 offsets_bytes top (c ∷ cs) = all_append (le16 (top - length c)) (offsets (top - length c) cs) (bytes16 (top - length c)) (offsets_bytes (top - length c) cs)
 
-bodies_bytes : (cells : List (List ℕ)) → All (All Byte) cells → All Byte (bodies cells)
+bodies_bytes : (cells : List (List ℕ)) → AllByRecursion (AllByRecursion Byte) cells → AllByRecursion Byte (bodies cells)
 unfolding bodies
 bodies_bytes [] a = tt
 bodies_bytes (c ∷ cs) a = all_append (bodies cs) c (bodies_bytes cs a.1) a.0
 
-zeros_bytes : (n : ℕ) → All Byte (zeros n)
+zeros_bytes : (n : ℕ) → AllByRecursion Byte (zeros n)
 zeros_bytes zero = tt
 zeros_bytes (suc n) = (omega arith, zeros_bytes n)
 
-header_bytes : (k l q n w : ℕ) → Byte k → All Byte (header k l q n w)
+header_bytes : (k l q n w : ℕ) → Byte k → AllByRecursion Byte (header k l q n w)
 header_bytes k l q n w h =
-    let children : All Byte (0 ∷ 0 ∷ (le32 l ++ le32 q)) = (omega arith, (omega arith, all_append (le32 l) (le32 q) (bytes32 l) (bytes32 q))) in
+    let children : AllByRecursion Byte (0 ∷ 0 ∷ (le32 l ++ le32 q)) = (omega arith, (omega arith, all_append (le32 l) (le32 q) (bytes32 l) (bytes32 q))) in
     (h, (omega arith, all_append (le16 n) (le16 w ++ 0 ∷ 0 ∷ (le32 l ++ le32 q)) (bytes16 n) (all_append (le16 w) (0 ∷ 0 ∷ (le32 l ++ le32 q)) (bytes16 w) children)))
 
-laid_bytes : (k l q : ℕ) (cells : List (List ℕ)) → Byte k → All (All Byte) cells → All Byte (laid_out k l q cells)
+laid_bytes : (k l q : ℕ) (cells : List (List ℕ)) → Byte k → AllByRecursion (AllByRecursion Byte) cells → AllByRecursion Byte (laid_out k l q cells)
 unfolding laid_out
 laid_bytes k l q cells h a =
     all_append (header k l q (length cells) (512 - length (bodies cells))) (offsets 512 cells ++ (zeros (496 - cost cells) ++ bodies cells)) (header_bytes k l q (length cells) (512 - length (bodies cells)) h)

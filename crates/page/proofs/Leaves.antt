@@ -1,6 +1,6 @@
 -- The cells of a leaf as pairs.
 use Rattle.std.proofs.Common.{◌≡◌, ℕ, suc, ◌+◌, ◌-◌, ◌<◌, ◌≤◌, true, cond, ltb, List, [], ◌∷◌, ◌++◌, map, length, get_or, take, drop, sym, refl, ap, ◌∙◌, ⊎_elim, arith}
-use Rattle.std.specs.List.{AllByRecursion as All}
+use Rattle.std.specs.List.{AllByRecursion}
 use Rattle.std.proofs.lemmas.List.{length-take-le, length-drop, drop_more, map_more}
 use Rattle.std.proofs.lemmas.Bool.{and_parts, leb-true, eqb-true, cases_lt}
 use Rattle.cuts.specs.Cuts.{total, fair}
@@ -54,7 +54,7 @@ fair_pairs a (x ∷ xs) h =
     ∙ (ap (λ n. cond (ltb a (total body_cost xs)) (suc (fair pair_cost (a + n) (map pair_of xs))) 0) c
     ∙ ap (λ n. cond (ltb a (total body_cost xs)) (suc n) 0) r)
 
-small_cells : (xs : List (List ℕ)) → every leaf_good xs ≡ true → All (λ (b : List ℕ). body_cost b ≤ 196) xs
+small_cells : (xs : List (List ℕ)) → every leaf_good xs ≡ true → AllByRecursion (λ (b : List ℕ). body_cost b ≤ 196) xs
 small_cells [] h = tt
 small_cells (x ∷ xs) h = let p = and_parts _ _ h in let q = leaf_parts_of x p.0 in (omega (arith, q.long, q.key, q.value), small_cells xs p.1)
 

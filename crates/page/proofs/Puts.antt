@@ -1,7 +1,7 @@
 -- Puts and removes in a leaf, by place.
 use Rattle.std.proofs.Common.{◌≡◌, ℕ, zero, suc, ◌+◌, ◌<◌, ◌≤◌, true, false, List, [], ◌∷◌, ◌++◌, map, length, take, drop, Some, None, sym, refl, ap, ◌∙◌, add-one, arith}
 use mathlib.Core.List.{map-append}
-use Rattle.std.specs.List.{AllByRecursion as All}
+use Rattle.std.specs.List.{AllByRecursion}
 use Rattle.std.proofs.lemmas.List.{take_at, drop_at, length-append}
 use Rattle.std.proofs.ByRecursion.{All-weaker}
 use Rattle.std.proofs.lemmas.Bool.{and_parts, and_from, le-leb, eq-eqb}
@@ -16,7 +16,7 @@ use Rattle.page.specs.Views.{key_of, key_at, FindsKey}
 use Rattle.page.proofs.Parts.{map_take, map_drop}
 
 -- pairs whose keys rise, and cells
-first_of_all : (x : List ℕ) (xs : List (List ℕ)) → rising leaf_key (x ∷ xs) ≡ true → All (λ (q : Pair). Below (leaf_key x) q.key) (map pair_of xs)
+first_of_all : (x : List ℕ) (xs : List (List ℕ)) → rising leaf_key (x ∷ xs) ≡ true → AllByRecursion (λ (q : Pair). Below (leaf_key x) q.key) (map pair_of xs)
 unfolding rising
 first_of_all x [] h = tt
 first_of_all x (y ∷ xs) h =
@@ -56,7 +56,7 @@ cells_as_pairs xs m ps keep skip e =
     ∙ ap (λ r. take keep (map pair_of xs) ++ r) (map-append pair_of m (drop skip xs) ∙ (ap (λ r. r ++ map pair_of (drop skip xs)) e ∙ ap (λ r. ps ++ r) (map_drop pair_of skip xs))))
 
 -- an insertion over the pair that has the key, and among those that have not
-later : (p : Pair) (ps : List Pair) (i : ℕ) → All (λ (q : Pair). Below p.key q.key) ps → i < length ps → Below p.key (key_at ps i)
+later : (p : Pair) (ps : List Pair) (i : ℕ) → AllByRecursion (λ (q : Pair). Below p.key q.key) ps → i < length ps → Below p.key (key_at ps i)
 later p [] i h l = absurd (omega arith)
 later p (q ∷ ps) zero h l = h.0
 later p (q ∷ ps) (suc i) h l = later p ps i h.1 (omega arith)

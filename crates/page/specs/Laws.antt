@@ -1,6 +1,6 @@
 -- What holds of pages of cells: each list of cells has exactly one page that reading accepts.
 use Rattle.std.specs.Prelude.{◌≡◌, ℕ, ◌^◌, ◌<◌, ◌≤◌, true, List, None, slice_index}
-use Rattle.std.specs.List.{AllByRecursion as All}
+use Rattle.std.specs.List.{AllByRecursion}
 use Rattle.page.specs.Kinds.{Rules}
 use Rattle.page.specs.Layout.{cost, cells_of, left_of, page_of}
 use Rattle.page.specs.Reading.{every, rising, first_fault}
@@ -18,7 +18,7 @@ Byte x = x < 2 ^ 8
 -- the page of such a list is accepted, and says this list
 abbrev pub PagesReadBack : Type 0
 PagesReadBack = (k : Rules) (leftmost : ℕ) (cells : List (List ℕ))
-    → Byte k.kind → leftmost < 2 ^ 32 → All (All Byte) cells → Fits k leftmost cells
+    → Byte k.kind → leftmost < 2 ^ 32 → AllByRecursion (AllByRecursion Byte) cells → Fits k leftmost cells
     → (first_fault k (page_of k.kind leftmost cells) ≡ None)
     × (left_of (page_of k.kind leftmost cells) ≡ leftmost)
     × (cells_of (page_of k.kind leftmost cells) ≡ cells)

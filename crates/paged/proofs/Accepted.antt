@@ -1,6 +1,6 @@
 -- What a page has that reading accepts.
 use Rattle.std.proofs.Common.{◌≡◌, ℕ, ◌+◌, ◌≤◌, true, not, List, [], ◌∷◌, map, length, get_or, drop, is_some, Some, None, Option, sym, refl, ◌∙◌, arith}
-use Rattle.std.specs.List.{AllByRecursion as All}
+use Rattle.std.specs.List.{AllByRecursion}
 use Rattle.std.proofs.lemmas.List.{length-drop, length-take-le, length-map}
 use Rattle.std.proofs.lemmas.Bool.{and_parts, false≢true}
 use Rattle.cuts.specs.Nodes.{PairFits, CellFits}
@@ -44,17 +44,17 @@ pair_fits b h =
     let k = length-take-le (get_or b 0 0) (drop 2 b) (omega (arith, length-drop 2 b, p.long)) in
     ((omega (arith, k, p.some), omega (arith, k, p.key)), omega (arith, length-drop (2 + get_or b 0 0) b, p.long, p.value))
 
-pairs_fit : (xs : List (List ℕ)) → every leaf_good xs ≡ true → All PairFits (map pair_of xs)
+pairs_fit : (xs : List (List ℕ)) → every leaf_good xs ≡ true → AllByRecursion PairFits (map pair_of xs)
 pairs_fit [] h = tt
 pairs_fit (x ∷ xs) h = let p = and_parts _ _ h in (pair_fits x p.0, pairs_fit xs p.1)
 
-cells_fit : (xs : List (List ℕ)) → every branch_good xs ≡ true → All CellFits (map cell_of xs)
+cells_fit : (xs : List (List ℕ)) → every branch_good xs ≡ true → AllByRecursion CellFits (map cell_of xs)
 cells_fit [] h = tt
 cells_fit (x ∷ xs) h = let p = and_parts _ _ h in (key_fits x p.0, cells_fit xs p.1)
 
 pub record LeafHas (b : List ℕ) : Type 0 where
   pub rises : Rising (pairs_in b)
-  pub fit : All PairFits (pairs_in b)
+  pub fit : AllByRecursion PairFits (pairs_in b)
   pub light : leaf_cost (pairs_in b) ≤ 496
   pub few : length (pairs_in b) ≤ 248
 
@@ -70,7 +70,7 @@ leaf_has b h =
 
 pub record BranchHas (b : List ℕ) : Type 0 where
   pub rises : ascending (branch_in b).rest ≡ true
-  pub fit : All CellFits (branch_in b).rest
+  pub fit : AllByRecursion CellFits (branch_in b).rest
   pub light : branch_cost (branch_in b) ≤ 496
   pub few : length (branch_in b).rest ≤ 248
 

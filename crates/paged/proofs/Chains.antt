@@ -1,6 +1,6 @@
 -- Separators that rise between bounds, and the children between them.
 use Rattle.std.proofs.Common.{◌≡◌, ℕ, true, List, [], ◌∷◌, map, refl}
-use Rattle.std.specs.List.{AllByRecursion as All}
+use Rattle.std.specs.List.{AllByRecursion}
 use Rattle.std.proofs.lemmas.Bool.{and_parts, and_from, not-true, not_from_false}
 use Rattle.cuts.specs.Keys.{key<, AtMost}
 use Rattle.cuts.specs.Nodes.{Pair, Cell, CellFits}
@@ -88,14 +88,14 @@ module _ {X : Type 0} (S : List ℕ → Bound → X → Type 0) where
   abbrev pub Slotted : Slot X → Type 0
   Slotted s = S s.low s.high s.child
 
-  pub spans_from : (lo : List ℕ) (hi : Bound) (x : X) (cs : List (Cell X)) → Chained lo hi cs → All Slotted (slots lo hi x cs) → Spans S lo hi x cs
+  pub spans_from : (lo : List ℕ) (hi : Bound) (x : X) (cs : List (Cell X)) → Chained lo hi cs → AllByRecursion Slotted (slots lo hi x cs) → Spans S lo hi x cs
   unfolding slots
   spans_from lo hi x [] c h = (h.0, tt)
   spans_from lo hi x (d ∷ cs) c h =
       let ih = spans_from d.separator hi d.child cs c.2 h.1 in
       (h.0, (c.0, c.1, ih.0, ih.1))
 
-  pub spans_slots : (lo : List ℕ) (hi : Bound) (x : X) (cs : List (Cell X)) → Spans S lo hi x cs → Chained lo hi cs × All Slotted (slots lo hi x cs)
+  pub spans_slots : (lo : List ℕ) (hi : Bound) (x : X) (cs : List (Cell X)) → Spans S lo hi x cs → Chained lo hi cs × AllByRecursion Slotted (slots lo hi x cs)
   unfolding slots
   spans_slots lo hi x [] h = (tt, (h.0, tt))
   spans_slots lo hi x (d ∷ cs) h =
@@ -118,6 +118,6 @@ module _ {X Y : Type 0} (g : X → Y) where
       → Spans S lo hi (g x) (map (map_cell g) cs) ≡ Spans (λ l h y. S l h (g y)) lo hi x cs
   spans_map S lo hi x cs = λ i. S lo (top_map hi cs i) (g x) × rest_map S lo hi cs i
 
-  pub fits_map : (cs : List (Cell X)) → All CellFits (map (map_cell g) cs) ≡ All CellFits cs
+  pub fits_map : (cs : List (Cell X)) → AllByRecursion CellFits (map (map_cell g) cs) ≡ AllByRecursion CellFits cs
   fits_map [] = refl
   fits_map (c ∷ cs) = λ i. CellFits c × fits_map cs i

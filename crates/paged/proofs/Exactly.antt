@@ -1,6 +1,6 @@
 -- The walk accepts exactly the sound trees that lie on the pages.
 use Rattle.std.proofs.Common.{◌≡◌, ℕ, zero, suc, ◌<◌, ◌≤◌, Bool, true, false, cond, ◌&&◌, eqb, List, [], ◌∷◌, map, length, Some, None, Ok, Err, Option, sym, refl, ap, ◌∙◌, subst, arith}
-use Rattle.std.specs.List.{AllByRecursion as All}
+use Rattle.std.specs.List.{AllByRecursion}
 use Rattle.std.proofs.lemmas.List.{length-map}
 use Rattle.std.proofs.lemmas.Bool.Decides.{nat_tests}
 use Rattle.std.proofs.lemmas.Bool.{and_parts, and_from, eqb-false, ne_eqb, leb-true, le-leb, lt-ltb}
@@ -60,15 +60,15 @@ leaf_from true lo hi b e f = three_pass _ _ _ e (within_from lo hi (pairs_in b) 
 leaf_from false lo hi b e f = three_pass _ _ _ e (within_from lo hi (pairs_in b) f.1.1.1) (le-leb _ _ f.0)
 
 -- lists
-every_all : {X : Type 0} (f : X → Bool) (P : X → Type 0) → ((x : X) → f x ≡ true → P x) → (xs : List X) → every f xs ≡ true → All P xs
+every_all : {X : Type 0} (f : X → Bool) (P : X → Type 0) → ((x : X) → f x ≡ true → P x) → (xs : List X) → every f xs ≡ true → AllByRecursion P xs
 every_all f P e [] h = tt
 every_all f P e (x ∷ xs) h = let q = and_parts (f x) (every f xs) h in (e x q.0, every_all f P e xs q.1)
 
-every_from : {X : Type 0} (f : X → Bool) (P : X → Type 0) → ((x : X) → P x → f x ≡ true) → (xs : List X) → All P xs → every f xs ≡ true
+every_from : {X : Type 0} (f : X → Bool) (P : X → Type 0) → ((x : X) → P x → f x ≡ true) → (xs : List X) → AllByRecursion P xs → every f xs ≡ true
 every_from f P e [] h = refl
 every_from f P e (x ∷ xs) h = and_from _ _ (e x h.0) (every_from f P e xs h.1)
 
-all_unmap : {X Y : Type 0} (P : X → Type 0) (f : Y → X) (ys : List Y) → All P (map f ys) → All (λ y. P (f y)) ys
+all_unmap : {X Y : Type 0} (P : X → Type 0) (f : Y → X) (ys : List Y) → AllByRecursion P (map f ys) → AllByRecursion (λ y. P (f y)) ys
 all_unmap P f [] h = tt
 all_unmap P f (y ∷ ys) h = (h.0, all_unmap P f ys h.1)
 
@@ -103,14 +103,14 @@ module _ (m : ℕ → List ℕ) (n : ℕ) where
       spans_map (bare n) (Full n (Sound n)) lo hi (tree_at m n (branch_in (m p)).first) (map (map_cell (tree_at m n)) (branch_in (m p)).rest)
       ∙ spans_map (tree_at m n) (λ l h t. Full n (Sound n) l h (bare n t)) lo hi (branch_in (m p)).first (branch_in (m p)).rest
 
-  fits_above : (p : ℕ) → All CellFits (above p).rest ≡ All CellFits (branch_in (m p)).rest
+  fits_above : (p : ℕ) → AllByRecursion CellFits (above p).rest ≡ AllByRecursion CellFits (branch_in (m p)).rest
   fits_above p = fits_map (bare n) (map (map_cell (tree_at m n)) (branch_in (m p)).rest) ∙ fits_map (tree_at m n) (branch_in (m p)).rest
 
   length_above : (p : ℕ) → length (above p).rest ≡ length (branch_in (m p)).rest
   length_above p = length-map _ (map_cell (bare n)) ∙ length-map (branch_in (m p)).rest (map_cell (tree_at m n))
 
   sound_above : (lo : List ℕ) (hi : Bound) (p : ℕ) → first_fault branch_rules (m p) ≡ None → all_within lo hi (separators_of (branch_in (m p)).rest) ≡ true
-      → All (Slotted Under) (slots_of lo hi (branch_in (m p))) → Light (suc n) (Sound (suc n)) lo hi (above p)
+      → AllByRecursion (Slotted Under) (slots_of lo hi (branch_in (m p))) → Light (suc n) (Sound (suc n)) lo hi (above p)
   sound_above lo hi p e w h =
       let b = branch_in (m p) in
       let has = branch_has (m p) e in
@@ -118,14 +118,14 @@ module _ (m : ℕ → List ℕ) (n : ℕ) where
       (omega (arith, cost_above p, has.light), (subst (λ (T : Type 0). T) (sym (spans_above lo hi p)) s, subst (λ (T : Type 0). T) (sym (fits_above p)) has.fit))
 
   slots_above : (lo : List ℕ) (hi : Bound) (p : ℕ) → Sound (suc n) lo hi (above p)
-      → (all_within lo hi (separators_of (branch_in (m p)).rest) ≡ true) × All (Slotted Under) (slots_of lo hi (branch_in (m p)))
+      → (all_within lo hi (separators_of (branch_in (m p)).rest) ≡ true) × AllByRecursion (Slotted Under) (slots_of lo hi (branch_in (m p)))
   slots_above lo hi p s =
       let b = branch_in (m p) in
       let q = spans_slots Under lo hi b.first b.rest (subst (λ (T : Type 0). T) (spans_above lo hi p) s.0) in
       (chain_within lo hi b.rest q.0, q.1)
 
   branch_tells : (root : Bool) (lo : List ℕ) (hi : Bound) (p : ℕ) → is_none (branch_fault root lo hi (m p)) ≡ true
-      → All (Slotted Under) (slots_of lo hi (branch_in (m p))) → (first_fault branch_rules (m p) ≡ None) × Fit root (suc n) lo hi (above p)
+      → AllByRecursion (Slotted Under) (slots_of lo hi (branch_in (m p))) → (first_fault branch_rules (m p) ≡ None) × Fit root (suc n) lo hi (above p)
   unfolding branch_fault
   branch_tells true lo hi p h a =
       let q = three_tests (first_fault branch_rules (m p)) (all_within lo hi (separators_of (branch_in (m p)).rest)) (branch_filled true (branch_in (m p))) h in
@@ -135,7 +135,7 @@ module _ (m : ℕ → List ℕ) (n : ℕ) where
       (q.0, (omega (arith, cost_above p, leb-true _ _ q.2), sound_above lo hi p q.0 q.1 a))
 
   branch_from : (root : Bool) (lo : List ℕ) (hi : Bound) (p : ℕ) → first_fault branch_rules (m p) ≡ None → Fit root (suc n) lo hi (above p)
-      → (is_none (branch_fault root lo hi (m p)) ≡ true) × All (Slotted Under) (slots_of lo hi (branch_in (m p)))
+      → (is_none (branch_fault root lo hi (m p)) ≡ true) × AllByRecursion (Slotted Under) (slots_of lo hi (branch_in (m p)))
   unfolding branch_fault
   branch_from true lo hi p e f =
       let q = slots_above lo hi p f.0.1 in
@@ -157,11 +157,11 @@ passes_tells m root (suc n) lo hi p h =
     let O = λ (s : Slot ℕ). Lies m n (tree_at m n s.child) in
     let S = λ (s : Slot ℕ). Full n (Sound n) s.low s.high (bare n (tree_at m n s.child)) in
     let both = every_all ok (λ s. O s × S s) (λ s e. passes_tells m false n s.low s.high s.child e) ss q.1 in
-    let ons : All O ss = All-weaker (λ s. O s × S s) O (λ s e. e.0) ss both in
-    let sounds : All S ss = All-weaker (λ s. O s × S s) S (λ s e. e.1) ss both in
+    let ons : AllByRecursion O ss = All-weaker (λ s. O s × S s) O (λ s e. e.0) ss both in
+    let sounds : AllByRecursion S ss = All-weaker (λ s. O s × S s) S (λ s e. e.1) ss both in
     let L = λ (x : ℕ). Lies m n (tree_at m n x) in
-    let here : All L (children b) = subst (All L) (slots_children lo hi b.first b.rest) (All-map L child_of ss ons) in
-    let lie : All (Lies m n) (children (map_branch (tree_at m n) b)) = subst (All (Lies m n)) (sym (children_map (tree_at m n) b)) (All-map (Lies m n) (tree_at m n) (children b) here) in
+    let here : AllByRecursion L (children b) = subst (AllByRecursion L) (slots_children lo hi b.first b.rest) (All-map L child_of ss ons) in
+    let lie : AllByRecursion (Lies m n) (children (map_branch (tree_at m n) b)) = subst (AllByRecursion (Lies m n)) (sym (children_map (tree_at m n) b)) (All-map (Lies m n) (tree_at m n) (children b) here) in
     let t = branch_tells m n root lo hi p q.0 sounds in
     ((t.0, map_back (root_page n) (tree_at m n) (page_found m n) b, lie), t.1)
 
@@ -176,14 +176,14 @@ passes_from m root (suc n) lo hi p o s =
     let O = λ (s : Slot ℕ). Lies m n (tree_at m n s.child) in
     let S = λ (s : Slot ℕ). Full n (Sound n) s.low s.high (bare n (tree_at m n s.child)) in
     let L = λ (x : ℕ). Lies m n (tree_at m n x) in
-    let here : All L (children b) = all_unmap (Lies m n) (tree_at m n) (children b) (subst (All (Lies m n)) (children_map (tree_at m n) b) o.2) in
-    let ons : All O ss = all_unmap L child_of ss (subst (All L) (sym (slots_children lo hi b.first b.rest)) here) in
+    let here : AllByRecursion L (children b) = all_unmap (Lies m n) (tree_at m n) (children b) (subst (AllByRecursion (Lies m n)) (children_map (tree_at m n) b) o.2) in
+    let ons : AllByRecursion O ss = all_unmap L child_of ss (subst (AllByRecursion L) (sym (slots_children lo hi b.first b.rest)) here) in
     let t = branch_from m n root lo hi p o.0 s in
     let all : every ok ss ≡ true = every_from ok (λ s. O s × S s) (λ s e. passes_from m false n s.low s.high s.child e.0 e.1) ss (all_both O S (λ s. O s × S s) (λ s x y. (x, y)) ss ons t.1) in
     and_from _ _ t.0 all
 
 -- pages apart and inside
-apart : (p : ℕ) (met ps : List ℕ) → All (λ q. elem q (p ∷ met) ≡ false) ps → All (λ q. p ≡ q → ⊥) ps × All (λ q. elem q met ≡ false) ps
+apart : (p : ℕ) (met ps : List ℕ) → AllByRecursion (λ q. elem q (p ∷ met) ≡ false) ps → AllByRecursion (λ q. p ≡ q → ⊥) ps × AllByRecursion (λ q. elem q met ≡ false) ps
 unfolding elem
 apart p met [] h = (tt, tt)
 apart p met (q ∷ qs) h =
@@ -191,7 +191,7 @@ apart p met (q ∷ qs) h =
     let e = h.0 in
     (((λ z. eqb-false q p (grind (arith, nat_tests)) (sym z)), ih.0), (grind (arith, nat_tests), ih.1))
 
-together : (p : ℕ) (met ps : List ℕ) → All (λ q. p ≡ q → ⊥) ps → All (λ q. elem q met ≡ false) ps → All (λ q. elem q (p ∷ met) ≡ false) ps
+together : (p : ℕ) (met ps : List ℕ) → AllByRecursion (λ q. p ≡ q → ⊥) ps → AllByRecursion (λ q. elem q met ≡ false) ps → AllByRecursion (λ q. elem q (p ∷ met) ≡ false) ps
 unfolding elem
 together p met [] e h = tt
 together p met (q ∷ qs) e h =
@@ -205,7 +205,7 @@ admits_tells size p met e = ((grind (arith, nat_tests), grind (arith, nat_tests)
 admits_from : (size p : ℕ) (met : List ℕ) → Inside size p → elem p met ≡ false → admits size met p ≡ true
 admits_from size p met i e = let a = i.0 in let b = i.1 in grind (arith, nat_tests)
 
-fresh_tells : (size : ℕ) (met ps : List ℕ) → fresh size met ps ≡ true → All (Inside size) ps × All (λ p. elem p met ≡ false) ps × Distinct ps
+fresh_tells : (size : ℕ) (met ps : List ℕ) → fresh size met ps ≡ true → AllByRecursion (Inside size) ps × AllByRecursion (λ p. elem p met ≡ false) ps × Distinct ps
 fresh_tells size met [] h = (tt, tt, tt)
 fresh_tells size met (p ∷ ps) h =
     let q = and_parts (admits size met p) (fresh size (p ∷ met) ps) h in
@@ -214,12 +214,12 @@ fresh_tells size met (p ∷ ps) h =
     let b = apart p met ps ih.1 in
     ((a.0, ih.0), (a.1, b.1), (b.0, ih.2))
 
-fresh_from : (size : ℕ) (met ps : List ℕ) → All (Inside size) ps → All (λ p. elem p met ≡ false) ps → Distinct ps → fresh size met ps ≡ true
+fresh_from : (size : ℕ) (met ps : List ℕ) → AllByRecursion (Inside size) ps → AllByRecursion (λ p. elem p met ≡ false) ps → Distinct ps → fresh size met ps ≡ true
 fresh_from size met [] i a d = refl
 fresh_from size met (p ∷ ps) i a d =
     and_from _ _ (admits_from size p met i.0 a.0) (fresh_from size (p ∷ met) ps i.1 (together p met ps d.0 a.1) d.1)
 
-none_met : (ps : List ℕ) → All (λ p. elem p [] ≡ false) ps
+none_met : (ps : List ℕ) → AllByRecursion (λ p. elem p [] ≡ false) ps
 unfolding elem
 none_met [] = tt
 none_met (p ∷ ps) = (refl, none_met ps)

@@ -1,6 +1,6 @@
 -- A sound tree on pages has fewer pages than the device, and so it is low.
 use Rattle.std.proofs.Common.{◌≡◌, ℕ, zero, suc, ◌+◌, ◌<◌, ◌≤◌, Bool, true, false, cond, ◌≢◌, List, [], ◌∷◌, map, length, get_or, set, replicate, count_by, sym, refl, ap, ◌∙◌, arith, length-append, length-set}
-use Rattle.std.specs.List.{flat_map, AllByRecursion as All}
+use Rattle.std.specs.List.{flat_map, AllByRecursion}
 use Rattle.std.proofs.lemmas.List.{get_or-set_other, get_or-replicate, length-replicate}
 use Rattle.std.proofs.lemmas.List.Sums.{sum_by-set, count_by-le-length, sum_by-cons}
 use Rattle.cuts.specs.Cuts.{total}
@@ -23,14 +23,14 @@ marked_more b p l f =
     omega arith
 
 -- distinct pages, none of which is marked, find places of their own
-all_others : (b : List Bool) (p : ℕ) (ps : List ℕ) → All (λ q. p ≡ q → ⊥) ps → All (λ q. (q < length b) × (get_or b q false ≡ false)) ps
-    → All (λ q. (q < length (set b p true)) × (get_or (set b p true) q false ≡ false)) ps
+all_others : (b : List Bool) (p : ℕ) (ps : List ℕ) → AllByRecursion (λ q. p ≡ q → ⊥) ps → AllByRecursion (λ q. (q < length b) × (get_or b q false ≡ false)) ps
+    → AllByRecursion (λ q. (q < length (set b p true)) × (get_or (set b p true) q false ≡ false)) ps
 all_others b p [] d h = tt
 all_others b p (q ∷ qs) d h =
     let ne : q ≢ p = λ e. d.0 (sym e) in
     ((omega (arith, length-set b p true, h.0.0), get_or-set_other b p q true false ne ∙ h.0.1), all_others b p qs d.1 h.1)
 
-places : (b : List Bool) (ps : List ℕ) → Distinct ps → All (λ q. (q < length b) × (get_or b q false ≡ false)) ps → marked b + length ps ≤ length b
+places : (b : List Bool) (ps : List ℕ) → Distinct ps → AllByRecursion (λ q. (q < length b) × (get_or b q false ≡ false)) ps → marked b + length ps ≤ length b
 places b [] d h = omega (arith, count_by-le-length (λ (x : Bool). x) b)
 places b (p ∷ ps) d h =
     let ih = places (set b p true) ps d.1 (all_others b p ps d.0 h.1) in
@@ -53,14 +53,14 @@ later n zero l h = let bad : ⊥ = omega arith in absurd bad
 later n (suc zero) l h = let bad : ⊥ = omega arith in absurd bad
 later n (suc (suc p)) l h = get_or-replicate n p false false (omega arith)
 
-all_later : (n : ℕ) (ps : List ℕ) → All (Inside (suc (suc n))) ps → All (λ q. (q < length (first_two n)) × (get_or (first_two n) q false ≡ false)) ps
+all_later : (n : ℕ) (ps : List ℕ) → AllByRecursion (Inside (suc (suc n))) ps → AllByRecursion (λ q. (q < length (first_two n)) × (get_or (first_two n) q false ≡ false)) ps
 all_later n [] h = tt
 all_later n (p ∷ ps) h =
     let l = h.0.0 in
     let k = h.0.1 in
     ((omega (arith, length-replicate n false), later n p l k), all_later n ps h.1)
 
-few_pages : (size p : ℕ) (ps : List ℕ) → Distinct (p ∷ ps) → All (Inside size) (p ∷ ps) → suc (suc (length (p ∷ ps))) ≤ size
+few_pages : (size p : ℕ) (ps : List ℕ) → Distinct (p ∷ ps) → AllByRecursion (Inside size) (p ∷ ps) → suc (suc (length (p ∷ ps))) ≤ size
 few_pages zero p ps d h = let k = h.0.1 in let bad : ⊥ = omega arith in absurd bad
 few_pages (suc zero) p ps d h = let l = h.0.0 in let k = h.0.1 in let bad : ⊥ = omega arith in absurd bad
 few_pages (suc (suc n)) p ps d h =
@@ -96,6 +96,6 @@ sound_trees_on_pages_are_low_lem m size n root count t h =
       low = λ s. (sound_trees_are_low_lem (as_tree n t) h.sound).1 (omega (arith, nodes_pages n t, few));
     }
   where
-    by : (n : ℕ) (t : PagedTree n) → Distinct (pages_of n t) → All (Inside size) (pages_of n t) → suc (suc (length (pages_of n t))) ≤ size
+    by : (n : ℕ) (t : PagedTree n) → Distinct (pages_of n t) → AllByRecursion (Inside size) (pages_of n t) → suc (suc (length (pages_of n t))) ≤ size
     by zero t d i = few_pages size t.page [] d i
     by (suc n) t d i = few_pages size t.page (flat_map (pages_of n) (children t.node)) d i

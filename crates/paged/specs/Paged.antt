@@ -1,6 +1,6 @@
 -- Trees on the pages of a device.
 use Rattle.std.specs.Prelude.{◌≡◌, ℕ, zero, suc, List, [], ◌∷◌, map, None}
-use Rattle.std.specs.List.{flat_map, AllByRecursion as All}
+use Rattle.std.specs.List.{flat_map, AllByRecursion}
 use Rattle.cuts.specs.Nodes.{Pair, Branch}
 use Rattle.tree.specs.Trees.{Tree, BTree, pairs_of}
 use Rattle.tree.specs.Places.{map_branch}
@@ -49,7 +49,7 @@ Lies m zero t = (first_fault leaf_rules (m t.page) ≡ None) × (pairs_in (m t.p
 Lies m (suc n) t =
     (first_fault branch_rules (m t.page) ≡ None)
     × (branch_in (m t.page) ≡ map_branch (root_page n) t.node)
-    × All (Lies m n) (children t.node)
+    × AllByRecursion (Lies m n) (children t.node)
 
 -- what the pages say from page p on, whatever that is
 abbrev pub tree_at : (m : ℕ → List ℕ) (n : ℕ) → ℕ → PagedTree n

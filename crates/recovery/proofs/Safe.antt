@@ -1,7 +1,7 @@
 -- What is kept from call to call: the record's commit is durable and whole, and the other meta page holds an older one, or
 -- the one in doubt, which is then whole, too.
 use Rattle.std.proofs.Common.{◌≡◌, ℕ, ◌+◌, ◌%◌, ◌<◌, ◌≤◌, Bool, true, false, cond, ltb, ◌⊎◌, List, [], ◌∷◌, Some, None, Option, Result, sym, refl, ap, ◌∙◌, subst, inl, inr, ⊎_elim, arith}
-use Rattle.std.specs.List.{AllByRecursion as All}
+use Rattle.std.specs.List.{AllByRecursion}
 use Rattle.std.proofs.lemmas.Bool.Decides.{nat_tests}
 use Rattle.std.proofs.lemmas.Bool.{cases_Bool, cases_eq, eq-eqb, both_ways}
 use Rattle.device.specs.Medium.{Medium}
@@ -29,7 +29,7 @@ pub record Whole (m : Medium) (x : Meta) : Type 0 where
   pub good : Good (x.commit % 2) m.size x
   pub fits : Fits x
   pub tree : SoundOn m.bytes m.size (height_of x) x.root x.pairs (tree_of m.bytes x)
-  pub firm : All (λ (p : ℕ). m.volatile p ≡ false) (pages_held m.bytes x)
+  pub firm : AllByRecursion (λ (p : ℕ). m.volatile p ≡ false) (pages_held m.bytes x)
 
 -- durable pages that are no meta pages stay as they are
 pub record Holds (m n : Medium) : Type 0 where
@@ -54,9 +54,9 @@ pub record Kept (m n : Medium) (x : Meta) : Type 0 where
 
 pub whole_holds : (m n : Medium) (x : Meta) → Holds m n → Whole m x → Kept m n x
 whole_holds m n x h w =
-    let both : All (λ p. (n.bytes p ≡ m.bytes p) × (n.volatile p ≡ false)) (pages_held m.bytes x) =
+    let both : AllByRecursion (λ p. (n.bytes p ≡ m.bytes p) × (n.volatile p ≡ false)) (pages_held m.bytes x) =
     all_both (Inside m.size) (λ p. m.volatile p ≡ false) (λ p. (n.bytes p ≡ m.bytes p) × (n.volatile p ≡ false)) (λ p i d. h.pages p i.0 d) (pages_held m.bytes x) w.tree.inside w.firm in
-    let same : All (λ p. n.bytes p ≡ m.bytes p) (pages_held m.bytes x) = firsts (pages_held m.bytes x) both in
+    let same : AllByRecursion (λ p. n.bytes p ≡ m.bytes p) (pages_held m.bytes x) = firsts (pages_held m.bytes x) both in
     let t = tree_same m.bytes n.bytes m.size x.pairs x same w.tree in
     record {
       whole = record {
@@ -65,16 +65,16 @@ whole_holds m n x h w =
         tree =
             subst (λ z. SoundOn n.bytes z (height_of x) x.root x.pairs (tree_of n.bytes x)) (sym h.size)
             (subst (λ v. SoundOn n.bytes m.size (height_of x) x.root x.pairs v) (sym t) (sound_same m.bytes n.bytes m.size (height_of x) x.root x.pairs (tree_of m.bytes x) same w.tree));
-        firm = subst (λ v. All (λ p. n.volatile p ≡ false) (pages_of (height_of x) v)) (sym t) (seconds (pages_held m.bytes x) both);
+        firm = subst (λ v. AllByRecursion (λ p. n.volatile p ≡ false) (pages_of (height_of x) v)) (sym t) (seconds (pages_held m.bytes x) both);
       };
       pairs = ap (λ v. pairs_on (height_of x) v) t;
     }
   where
-    firsts : (ps : List ℕ) → All (λ p. (n.bytes p ≡ m.bytes p) × (n.volatile p ≡ false)) ps → All (λ p. n.bytes p ≡ m.bytes p) ps
+    firsts : (ps : List ℕ) → AllByRecursion (λ p. (n.bytes p ≡ m.bytes p) × (n.volatile p ≡ false)) ps → AllByRecursion (λ p. n.bytes p ≡ m.bytes p) ps
     firsts [] a = tt
     firsts (p ∷ ps) a = (a.0.0, firsts ps a.1)
 
-    seconds : (ps : List ℕ) → All (λ p. (n.bytes p ≡ m.bytes p) × (n.volatile p ≡ false)) ps → All (λ p. n.volatile p ≡ false) ps
+    seconds : (ps : List ℕ) → AllByRecursion (λ p. (n.bytes p ≡ m.bytes p) × (n.volatile p ≡ false)) ps → AllByRecursion (λ p. n.volatile p ≡ false) ps
     seconds [] a = tt
     seconds (p ∷ ps) a = (a.0.1, seconds ps a.1)
 

@@ -1,6 +1,6 @@
 -- The loads of a search, and the calls below them.
 use Rattle.std.proofs.Common.{◌≡◌, ℕ, zero, suc, ◌+◌, ◌-◌, ◌<◌, Bool, true, List, length, Some, None, Ok, Err, Option, Result, sym, refl, ap, ◌∙◌, subst, arith}
-use Rattle.std.specs.List.{AllByRecursion as All}
+use Rattle.std.specs.List.{AllByRecursion}
 use Rattle.device.specs.Medium.{Medium}
 use Rattle.device.specs.History.{History}
 use Rattle.device.specs.Looking.{Looks}
@@ -35,7 +35,7 @@ branch_faultless : (m : Medium) (height : ℕ) → (height ≡ 0 → ⊥) → No
 branch_faultless m height z zero t e l = absurd (z e)
 branch_faultless m height z (suc n) t e l = l.0
 
-root_inside : (P : ℕ → Type 0) (n : ℕ) (t : PagedTree n) → All P (pages_of n t) → P (root_page n t)
+root_inside : (P : ℕ → Type 0) (n : ℕ) (t : PagedTree n) → AllByRecursion P (pages_of n t) → P (root_page n t)
 root_inside P zero t h = h.0
 root_inside P (suc n) t h = h.0
 

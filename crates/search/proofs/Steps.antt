@@ -1,6 +1,6 @@
 -- One step down a tree, and what comes of it.
 use Rattle.std.proofs.Common.{◌≡◌, ℕ, zero, suc, ◌+◌, ◌-◌, ◌<◌, Bool, true, false, cond, ltb, List, length, Some, None, Ok, Option, Result, sym, refl, ap, ◌∙◌, subst, arith}
-use Rattle.std.specs.List.{AllByRecursion as All}
+use Rattle.std.specs.List.{AllByRecursion}
 use Rattle.std.proofs.lemmas.List.{length-map}
 use Rattle.std.proofs.lemmas.Bool.{lt-ltb}
 use Rattle.std.proofs.lemmas.Bool.Decides.{nat_tests}
@@ -47,8 +47,8 @@ module _ (m : Medium) (n page : ℕ) (t : PagedTree (suc n)) (st : Standing m (s
   child_stands o k i = record {
     starts = child_at_map (root_page n) i t.node.first t.node.rest ∙ ap (child_in i) (sym branch_is);
     lies = subst (λ (b : ℕ → List ℕ). Lies b n (child_in i t.node)) (sym (same_pages k)) (all_child (Lies m.bytes n) i t.node.first t.node.rest st.lies.2);
-    inside = subst (λ z. All (λ (p : ℕ). p < z) (pages_of n (child_in i t.node))) (sym k.same_size)
-        (all_child (λ (x : PagedTree n). All (λ (p : ℕ). p < m.size) (pages_of n x)) i t.node.first t.node.rest (all_joined (λ (p : ℕ). p < m.size) (pages_of n) (children t.node) st.inside.1));
+    inside = subst (λ z. AllByRecursion (λ (p : ℕ). p < z) (pages_of n (child_in i t.node))) (sym k.same_size)
+        (all_child (λ (x : PagedTree n). AllByRecursion (λ (p : ℕ). p < m.size) (pages_of n x)) i t.node.first t.node.rest (all_joined (λ (p : ℕ). p < m.size) (pages_of n) (children t.node) st.inside.1));
   }
 
 -- a place in a child is one in the tree

@@ -1,6 +1,6 @@
 -- What a search in a tree on the pages of a device finds.
 use Rattle.std.specs.Prelude.{◌≡◌, ℕ, zero, suc, ◌<◌, Bool, true, false, List, [], ◌∷◌, length, Some, None, Ok, Err, Option, Result, slice_index_or}
-use Rattle.std.specs.List.{ContainsAt as Has, flat_map, AllByRecursion as All}
+use Rattle.std.specs.List.{ContainsAt, flat_map, AllByRecursion}
 use Rattle.std.specs.Option.{option_map}
 use Rattle.device.specs.Medium.{Medium}
 use Rattle.device.specs.History.{History}
@@ -37,7 +37,7 @@ leaf_pages (suc n) t = flat_map (leaf_pages n) (children t.node)
 -- on its page, and the cell with the pair
 pub record PlaceOf (m : ℕ → List ℕ) (n : ℕ) (t : PagedTree n) (p : Pair) (place : Place) : Type 0 where
   pub page : ℕ
-  pub of_leaf : Has (leaf_pages n t) page
+  pub of_leaf : ContainsAt (leaf_pages n t) page
   pub bytes_are : place.leaf.bytes ≡ m page
   pub holds : Holds place p
 
@@ -51,7 +51,7 @@ Answers m n t true (Some p) r = (place : Place) × (r ≡ Ok (Some place)) × Pl
 pub record Standing (m : Medium) (n root : ℕ) (t : PagedTree n) : Type 0 where
   pub starts : root_page n t ≡ root
   pub lies : Lies m.bytes n t
-  pub inside : All (λ (p : ℕ). p < m.size) (pages_of n t)
+  pub inside : AllByRecursion (λ (p : ℕ). p < m.size) (pages_of n t)
 
 -- Whichever sound tree of this height stands there, the search finds in it what is wanted of its pairs. (At most one
 -- tree stands there. Where none does, or one that is not sound, nothing is said.)

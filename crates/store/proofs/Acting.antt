@@ -1,6 +1,6 @@
 -- How stretches of calls are put together.
 use Rattle.std.proofs.Common.{[], ◌∷◌, ◌++◌, sym, refl, subst, append_assoc}
-use Rattle.std.specs.List.{AllByRecursion as All}
+use Rattle.std.specs.List.{AllByRecursion}
 use Rattle.std.proofs.ByRecursion.{All-append, All-weaker}
 use Rattle.device.specs.Medium.{Medium}
 use Rattle.device.specs.History.{Event, Step, step, History, Leads, Allowed, Happens}
@@ -17,7 +17,7 @@ acts_one F e r f = record { follows = λ h p. let a = r.follows h p in (step _ e
 
 pub acts_more : {P : History → Type 0} {m : Medium} {Q : History → Type 0} {n : Medium} {R : History → Type 0} {o : Medium} (F G H : History → Type 0)
     → Acts P m Q n F → Acts Q n R o G
-    → ((t u : History) → Leads m t n → All IsAllowed t → Leads n u o → All IsAllowed u → F t → G u → H (u ++ t))
+    → ((t u : History) → Leads m t n → AllByRecursion IsAllowed t → Leads n u o → AllByRecursion IsAllowed u → F t → G u → H (u ++ t))
     → Acts P m R o H
 acts_more {P} {m} {Q} {n} {R} {o} F G H k l f = record {
   follows = λ h i.
@@ -42,7 +42,7 @@ read_allowed : (s : Step) → IsRead s → IsAllowed s
 read_allowed s (p, b, a, e, r) = subst (λ v. Allowed s.before v s.after) (sym e) r
 
 pub acts_looks : {P : History → Type 0} {m : Medium} {Q : History → Type 0} {n : Medium} (F G : History → Type 0)
-    → Looks P m Q n F → ((t : History) → Leads m t n → All IsRead t → F t → G t) → Acts P m Q n G
+    → Looks P m Q n F → ((t : History) → Leads m t n → AllByRecursion IsRead t → F t → G t) → Acts P m Q n G
 acts_looks F G k f = record {
   follows = λ h i.
       let a = k.follows h i in

@@ -1,6 +1,6 @@
 -- A commit, by what became of its calls.
 use Rattle.std.proofs.Common.{◌≡◌, ℕ, ◌+◌, ◌%◌, ◌≤◌, Bool, true, false, List, [], ◌∷◌, Ok, Err, Result, sym, refl, ap, ◌∙◌, subst, inl, inr, arith}
-use Rattle.std.specs.List.{AllByRecursion as All}
+use Rattle.std.specs.List.{AllByRecursion}
 use Rattle.std.proofs.lemmas.Bool.Decides.{nat_tests}
 use Rattle.device.specs.Medium.{Medium}
 use Rattle.device.specs.Calls.{Writes, Syncs}
@@ -24,7 +24,7 @@ use Rattle.store.specs.declared.state.Held.{Held}
 use Rattle.store.proofs.Acting.{acts_weaker}
 use Rattle.store.proofs.Kept.{Same, stands_but, pairs_keep, later_newest}
 
-all_durable : (n : Medium) → ((p : ℕ) → n.volatile p ≡ false) → (ps : List ℕ) → All (λ p. n.volatile p ≡ false) ps
+all_durable : (n : Medium) → ((p : ℕ) → n.volatile p ≡ false) → (ps : List ℕ) → AllByRecursion (λ p. n.volatile p ≡ false) ps
 all_durable n f [] = tt
 all_durable n f (p ∷ ps) = (f p, all_durable n f ps)
 

@@ -1,6 +1,6 @@
 -- What is found on a device is a committed version.
 use Rattle.std.proofs.Common.{◌≡◌, ℕ, ◌-◌, ◌%◌, Bool, true, false, cond, ◌&&◌, ltb, ◌⊎◌, List, [], ◌∷◌, Some, None, Ok, Err, Option, Result, sym, refl, ap, ◌∙◌, subst, inl, inr, ⊎_elim, arith}
-use Rattle.std.specs.List.{AllByRecursion as All}
+use Rattle.std.specs.List.{AllByRecursion}
 use Rattle.std.specs.Str.{bytes_eq}
 use Rattle.std.proofs.lemmas.Slice.Eq.{bytes_eq-Decides}
 use Rattle.std.proofs.lemmas.Bool.{and_parts}
@@ -98,6 +98,6 @@ found_committed n x tree marks fits e mk d =
       same,
     )
   where
-    all : (ps : List ℕ) → All (λ p. n.volatile p ≡ false) ps
+    all : (ps : List ℕ) → AllByRecursion (λ p. n.volatile p ≡ false) ps
     all [] = tt
     all (p ∷ ps) = (d p, all ps)

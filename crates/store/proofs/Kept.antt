@@ -1,6 +1,6 @@
 -- What versions keep when other pages change, and how the next one becomes the newest.
 use Rattle.std.proofs.Common.{◌≡◌, ℕ, zero, suc, ◌+◌, ◌%◌, ◌<◌, Bool, true, false, ltb, ◌⊎◌, List, [], ◌∷◌, Some, sym, ap, ◌∙◌, subst, inl, inr, ⊎_elim, arith}
-use Rattle.std.specs.List.{flat_map, AllByRecursion as All}
+use Rattle.std.specs.List.{flat_map, AllByRecursion}
 use Rattle.std.proofs.ByRecursion.{All-weaker}
 use Rattle.std.proofs.lemmas.Bool.{lt-ltb, le-ltb, cases_eq}
 use Rattle.device.specs.Medium.{Medium}
@@ -23,23 +23,23 @@ use Rattle.walk.specs.Checking.{fits_pages, newest_in}
 use Rattle.store.specs.Versions.{height_of, tree_of, pages_held, pairs_held, Stands, Committed}
 
 -- a tree on pages that keep their bytes
-all_joined : {X : Type 0} (P : ℕ → Type 0) (f : X → List ℕ) (xs : List X) → All P (flat_map f xs) → All (λ x. All P (f x)) xs
+all_joined : {X : Type 0} (P : ℕ → Type 0) (f : X → List ℕ) (xs : List X) → AllByRecursion P (flat_map f xs) → AllByRecursion (λ x. AllByRecursion P (f x)) xs
 all_joined P f [] h = tt
 all_joined P f (x ∷ xs) h = let p = all_split P (f x) (flat_map f xs) h in (p.0, all_joined P f xs p.1)
 
-lies_same : (f g : ℕ → List ℕ) (n : ℕ) (t : PagedTree n) → All (λ p. g p ≡ f p) (pages_of n t) → Lies f n t → Lies g n t
+lies_same : (f g : ℕ → List ℕ) (n : ℕ) (t : PagedTree n) → AllByRecursion (λ p. g p ≡ f p) (pages_of n t) → Lies f n t → Lies g n t
 lies_same f g zero t a l = (ap (first_fault leaf_rules) a.0 ∙ l.0, ap pairs_in a.0 ∙ l.1)
 lies_same f g (suc n) t a l = (
   ap (first_fault branch_rules) a.0 ∙ l.0,
   ap branch_in a.0 ∙ l.1,
-  all_both (λ x. All (λ p. g p ≡ f p) (pages_of n x)) (Lies f n) (Lies g n) (lies_same f g n) (children t.node) (all_joined (λ p. g p ≡ f p) (pages_of n) (children t.node) a.1) l.2,
+  all_both (λ x. AllByRecursion (λ p. g p ≡ f p) (pages_of n x)) (Lies f n) (Lies g n) (lies_same f g n) (children t.node) (all_joined (λ p. g p ≡ f p) (pages_of n) (children t.node) a.1) l.2,
 )
 
-pub sound_same : (f g : ℕ → List ℕ) (size n root count : ℕ) (t : PagedTree n) → All (λ p. g p ≡ f p) (pages_of n t) → SoundOn f size n root count t → SoundOn g size n root count t
+pub sound_same : (f g : ℕ → List ℕ) (size n root count : ℕ) (t : PagedTree n) → AllByRecursion (λ p. g p ≡ f p) (pages_of n t) → SoundOn f size n root count t → SoundOn g size n root count t
 sound_same f g size n root count t a s =
     record { starts = s.starts; lies = lies_same f g n t a s.lies; sound = s.sound; apart = s.apart; inside = s.inside; counts = s.counts }
 
-pub tree_same : (f g : ℕ → List ℕ) (size count : ℕ) (x : Meta) → All (λ p. g p ≡ f p) (pages_held f x) → SoundOn f size (height_of x) x.root count (tree_of f x) → tree_of g x ≡ tree_of f x
+pub tree_same : (f g : ℕ → List ℕ) (size count : ℕ) (x : Meta) → AllByRecursion (λ p. g p ≡ f p) (pages_held f x) → SoundOn f size (height_of x) x.root count (tree_of f x) → tree_of g x ≡ tree_of f x
 tree_same f g size count x a s =
     let t = sound_same f g size (height_of x) x.root count (tree_of f x) a s in
     sym (one_tree_lies_lem g (height_of x) (tree_of f x) t.lies ∙ ap (tree_at g (height_of x)) t.starts)
@@ -48,7 +48,7 @@ pub record Same (m n : Medium) (x : Meta) (marks : List Bool) : Type 0 where
   pub stands : Stands n x marks
   pub tree : tree_of n.bytes x ≡ tree_of m.bytes x
 
-pub stands_same : (m n : Medium) (x : Meta) (marks : List Bool) → n.size ≡ m.size → All (λ p. n.bytes p ≡ m.bytes p) (pages_held m.bytes x) → Stands m x marks → Same m n x marks
+pub stands_same : (m n : Medium) (x : Meta) (marks : List Bool) → n.size ≡ m.size → AllByRecursion (λ p. n.bytes p ≡ m.bytes p) (pages_held m.bytes x) → Stands m x marks → Same m n x marks
 stands_same m n x marks e a s =
     let same = tree_same m.bytes n.bytes m.size x.pairs x a s.tree in
     let sound = sound_same m.bytes n.bytes m.size (height_of x) x.root x.pairs (tree_of m.bytes x) a s.tree in
@@ -62,7 +62,7 @@ stands_same m n x marks e a s =
       tree = same;
     }
 
-all_true : {X : Type 0} (P : X → Type 0) → ((x : X) → P x) → (xs : List X) → All P xs
+all_true : {X : Type 0} (P : X → Type 0) → ((x : X) → P x) → (xs : List X) → AllByRecursion P xs
 all_true P f [] = tt
 all_true P f (x ∷ xs) = (f x, all_true P f xs)
 
@@ -82,14 +82,14 @@ committed_keep m n x marks k c =
       page = k.same_bytes (x.commit % 2) ∙ c.page;
       newest = newest_same m n k.same_size (k.same_bytes 0) (k.same_bytes 1) ∙ c.newest;
       page_durable = k.stays_durable (x.commit % 2) c.page_durable;
-      tree_durable = subst (λ t. All (λ p. n.volatile p ≡ false) (pages_of (height_of x) t)) (sym s.tree) (All-weaker (λ p. m.volatile p ≡ false) (λ p. n.volatile p ≡ false) k.stays_durable (pages_held m.bytes x) c.tree_durable);
+      tree_durable = subst (λ t. AllByRecursion (λ p. n.volatile p ≡ false) (pages_of (height_of x) t)) (sym s.tree) (All-weaker (λ p. m.volatile p ≡ false) (λ p. n.volatile p ≡ false) k.stays_durable (pages_held m.bytes x) c.tree_durable);
     }
 
 pub pairs_keep : (m n : Medium) (x : Meta) (marks : List Bool) → Same m n x marks → pairs_held n.bytes x ≡ pairs_held m.bytes x
 pairs_keep m n x marks s = ap (λ t. pairs_on (height_of x) t) s.tree
 
 -- the pages of a tree are no meta pages
-tree_pages : (m n : Medium) (q : ℕ) (x : Meta) (marks : List Bool) → q < 2 → ((p : ℕ) → (p ≡ q → ⊥) → n.bytes p ≡ m.bytes p) → Stands m x marks → All (λ p. n.bytes p ≡ m.bytes p) (pages_held m.bytes x)
+tree_pages : (m n : Medium) (q : ℕ) (x : Meta) (marks : List Bool) → q < 2 → ((p : ℕ) → (p ≡ q → ⊥) → n.bytes p ≡ m.bytes p) → Stands m x marks → AllByRecursion (λ p. n.bytes p ≡ m.bytes p) (pages_held m.bytes x)
 tree_pages m n q x marks l f s = All-weaker (Inside m.size) (λ p. n.bytes p ≡ m.bytes p) (λ p i. f p (λ e. let a = i.0 in let bad : ⊥ = omega arith in bad)) (pages_held m.bytes x) s.tree.inside
 
 pub stands_but : (m n : Medium) (q : ℕ) (x : Meta) (marks : List Bool) → q < 2 → n.size ≡ m.size → ((p : ℕ) → (p ≡ q → ⊥) → n.bytes p ≡ m.bytes p) → Stands m x marks → Same m n x marks

@@ -1,6 +1,6 @@
 -- An opening, by what its calls answer.
 use Rattle.std.proofs.Common.{◌≡◌, Bool, true, false, IfOk, Ok, Err, Result, sym, refl, ◌∙◌, subst, inl, inr}
-use Rattle.std.specs.List.{AllByRecursion as All}
+use Rattle.std.specs.List.{AllByRecursion}
 use Rattle.std.proofs.ByRecursion.{All-append, All-weaker}
 use Rattle.device.specs.Medium.{Medium}
 use Rattle.device.specs.Calls.{Keeps, Syncs}
@@ -34,11 +34,11 @@ read_quiet : (s : Step) → IsRead s → IsQuiet s
 read_quiet s r = inl r
 
 module _ (P : History → Type 0) (m : Medium) where
-  pub room_refused : fits_pages m.size ≡ false → Acts P m P m (λ t. All IsQuiet t × Reopens m m (Err PageCount))
+  pub room_refused : fits_pages m.size ≡ false → Acts P m P m (λ t. AllByRecursion IsQuiet t × Reopens m m (Err PageCount))
   room_refused e = acts_none _ (λ h p. (tt, rw e))
 
   module _ (Q : History → Type 0) (n : Medium) (room : fits_pages m.size ≡ true) where
-    pub sync_refused : (d : DeviceFault) → Happens P m (did_sync (Err d)) Q n → Acts P m Q n (λ t. All IsQuiet t × Reopens m n (Err (from_device d)))
+    pub sync_refused : (d : DeviceFault) → Happens P m (did_sync (Err d)) Q n → Acts P m Q n (λ t. AllByRecursion IsQuiet t × Reopens m n (Err (from_device d)))
     sync_refused Outside h = acts_one _ (did_sync (Err Outside)) h (λ s. absurd s)
     sync_refused Off h = acts_one _ (did_sync (Err Off)) h (λ s. ((inr (Err Off, refl, s), tt), rw (room, s.0.is_off)))
 
@@ -50,9 +50,9 @@ module _ (P : History → Type 0) (m : Medium) where
           let c = found_committed o r.meta tree r.marks.marked fits here mk (λ p. k.stays_durable p (s.1 p)) in
           (tree, sym (found_same m n o.on s.2) ∙ e, c.0, c.1)
 
-      pub recovered : (r : Result Recovered StoreFault) → IfOk r (λ x. Fits x.meta) → Looks Q n R o (λ t. Recovers n o.on t r) → Acts P m R o (λ t. All IsQuiet t × Reopens m o r)
+      pub recovered : (r : Result Recovered StoreFault) → IfOk r (λ x. Fits x.meta) → Looks Q n R o (λ t. Recovers n o.on t r) → Acts P m R o (λ t. AllByRecursion IsQuiet t × Reopens m o r)
       recovered r fits l =
-          acts_more (λ t. All IsQuiet t × Syncs m (Ok tt) n) (λ u. All IsQuiet u × ((Syncs m (Ok tt) n) → Reopens m o r)) _
+          acts_more (λ t. AllByRecursion IsQuiet t × Syncs m (Ok tt) n) (λ u. AllByRecursion IsQuiet u × ((Syncs m (Ok tt) n) → Reopens m o r)) _
           (acts_one _ (did_sync (Ok tt)) first (λ s. ((inr (Ok tt, refl, s), tt), s)))
           (acts_looks _ _ l (λ u lu au w. (All-weaker IsRead IsQuiet read_quiet u au, λ s. answered r u fits s (reads_keep n u o lu au) w)))
           (λ t u _ _ _ _ i j. (All-append IsQuiet u t j.0 i.0, j.1 i.1))
@@ -67,6 +67,6 @@ opened_model (Idle x) m n b c r ne e (tree, f, k, same) =
 opened_model (InTransaction x w) m n b c r ne e q = absurd (ne x w refl)
 
 module _ (P : History → Type 0) (m : Medium) (Q : History → Type 0) (n : Medium) (s : State) (b c : Held) where
-  pub opened_store : (r : Recovered) → ((x w : Meta) → s ≡ InTransaction x w → ⊥) → c.committed ≡ r.marks → Acts P m Q n (λ t. All IsQuiet t × Reopens m n (Ok r))
-      → Acts P m Q n (λ t. All IsQuiet t × (Ready m s b → Obeys m s b n (Idle r.meta) c (opens (map_on m n.on)) (Ok r.meta.commit)))
+  pub opened_store : (r : Recovered) → ((x w : Meta) → s ≡ InTransaction x w → ⊥) → c.committed ≡ r.marks → Acts P m Q n (λ t. AllByRecursion IsQuiet t × Reopens m n (Ok r))
+      → Acts P m Q n (λ t. AllByRecursion IsQuiet t × (Ready m s b → Obeys m s b n (Idle r.meta) c (opens (map_on m n.on)) (Ok r.meta.commit)))
   opened_store r ne e a = acts_weaker _ _ a (λ t _ i. (i.0, λ _. opened_model s m n b c r ne e i.1))

@@ -1,6 +1,6 @@
 -- Stretches of calls of a device.
 use Rattle.std.specs.Prelude.{List, ◌++◌, map}
-use Rattle.std.specs.List.{AllByRecursion as All}
+use Rattle.std.specs.List.{AllByRecursion}
 use Rattle.device.specs.Medium.{Medium}
 use Rattle.device.specs.History.{Event, Step, History, Leads, Allowed}
 
@@ -11,7 +11,7 @@ IsAllowed s = Allowed s.before s.event s.after
 -- Whichever history led to the medium m, calls lead from it to the medium n, and F holds of them. P are the histories
 -- that may have been the device's before them, and Q those that may be its own after them.
 pub record Acts (P : History → Type 0) (m : Medium) (Q : History → Type 0) (n : Medium) (F : History → Type 0) : Type 0 where
-  pub follows : (h : History) → P h → (t : History) × Q (t ++ h) × Leads m t n × All IsAllowed t × F t
+  pub follows : (h : History) → P h → (t : History) × Q (t ++ h) × Leads m t n × AllByRecursion IsAllowed t × F t
 
 -- the calls, newest first
 abbrev pub events_of : History → List Event

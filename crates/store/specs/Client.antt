@@ -1,6 +1,6 @@
 -- The calls of a client, and what each of them did.
 use Rattle.std.specs.Prelude.{◌≡◌, ℕ, List, [], ◌∷◌, Ok, Err, vec_items, Result}
-use Rattle.std.specs.List.{AllByRecursion as All}
+use Rattle.std.specs.List.{AllByRecursion}
 use Rattle.device.specs.Medium.{Medium}
 use Rattle.device.specs.Calls.{Returns}
 use Rattle.device.specs.History.{History, step, power_returned}
@@ -38,14 +38,14 @@ done (Err f) = Refused f
 -- m to the medium n. The store is then in the state z with the marks c, and has answered a.
 abbrev pub Does : Call → Medium → State → Held → Medium → State → Held → Answer → History → Type 0
 Does Open m s b n z c a t =
-    (r : Result ℕ StoreFault) × (a ≡ numbered r) × All IsQuiet t × (Ready m s b → Obeys m s b n z c (opens (map_on m n.on)) r)
+    (r : Result ℕ StoreFault) × (a ≡ numbered r) × AllByRecursion IsQuiet t × (Ready m s b → Obeys m s b n z c (opens (map_on m n.on)) r)
 Does Begin m s b n z c a t = (r : Result Unit StoreFault) × (a ≡ done r) × (t ≡ []) × (n ≡ m) × (Sound m s b → Obeys m s b n z c begins r)
 Does Abort m s b n z c a t = (r : Result Unit StoreFault) × (a ≡ done r) × (t ≡ []) × (n ≡ m) × (Sound m s b → Obeys m s b n z c aborts r)
 Does (Get k) m s b n z c a t =
-    (r : Result ℕ StoreFault) × (buffer : List ℕ) × (a ≡ celled r) × All IsRead t
+    (r : Result ℕ StoreFault) × (buffer : List ℕ) × (a ≡ celled r) × AllByRecursion IsRead t
     × (Sound m s b → Hands m s b n z c (reads n.on (is_key (vec_items k)) (pair_with (vec_items k))) r buffer)
 Does (After k) m s b n z c a t =
-    (r : Result ℕ StoreFault) × (buffer : List ℕ) × (a ≡ celled r) × All IsRead t
+    (r : Result ℕ StoreFault) × (buffer : List ℕ) × (a ≡ celled r) × AllByRecursion IsRead t
     × (Sound m s b → Hands m s b n z c (reads n.on (is_short (vec_items k)) (first_above (vec_items k))) r buffer)
 Does Commit m s b n z c a t =
     (r : Result ℕ StoreFault) × (a ≡ numbered r) × CommitCalls s m n t r × (Sound m s b → Obeys m s b n z c (commits n.on) r)

@@ -1,6 +1,6 @@
 -- What a read of the map hands out.
 use Rattle.std.specs.Prelude.{◌≡◌, ℕ, ◌<◌, Bool, ◌&&◌, List, length, Some, None, Ok, Err, Option, Result, nat_le}
-use Rattle.std.specs.List.{ContainsAt as Has}
+use Rattle.std.specs.List.{ContainsAt}
 use Rattle.device.specs.Medium.{Medium, zeros}
 use Rattle.device.specs.declared.fault.DeviceFault.TheVariants.{Outside, Off}
 use Rattle.cuts.specs.Nodes.{Pair}
@@ -39,7 +39,7 @@ pub record InLeafOf (m : ℕ → List ℕ) (v : Option Meta) (p : Pair) (buffer 
   pub meta : Meta
   pub is_version : v ≡ Some meta
   pub page : ℕ
-  pub of_tree : Has (leaf_pages (height_of meta) (tree_of m meta)) page
+  pub of_tree : ContainsAt (leaf_pages (height_of meta) (tree_of m meta)) page
   pub bytes_are : buffer ≡ m page
   pub is_leaf : first_fault leaf_rules buffer ≡ None
   pub within : cell < length (pairs_in buffer)

@@ -1,6 +1,6 @@
 -- Versions of the tree on the device, and sound stores.
 use Rattle.std.specs.Prelude.{◌≡◌, ℕ, ◌+◌, ◌-◌, ◌%◌, Bool, true, false, List, Some}
-use Rattle.std.specs.List.{AllByRecursion as All}
+use Rattle.std.specs.List.{AllByRecursion}
 use Rattle.device.specs.Medium.{Medium}
 use Rattle.cuts.specs.Nodes.{Pair}
 use Rattle.meta.specs.Laws.{Fits}
@@ -44,7 +44,7 @@ pub record Committed (m : Medium) (x : Meta) (marks : List Bool) : Type 0 where
   pub page : m.bytes (x.commit % 2) ≡ meta_page x
   pub newest : newest_in m.bytes m.size ≡ Some x
   pub page_durable : m.volatile (x.commit % 2) ≡ false
-  pub tree_durable : All (λ (p : ℕ). m.volatile p ≡ false) (pages_held m.bytes x)
+  pub tree_durable : AllByRecursion (λ (p : ℕ). m.volatile p ≡ false) (pages_held m.bytes x)
 
 -- a store whose state says what is on its device; in a transaction the working version has the next number
 abbrev pub Sound : Medium → State → Held → Type 0

@@ -1,6 +1,6 @@
 -- Soundness through the steps at a branch, whatever the children are.
 use Rattle.std.proofs.Common.{◌≡◌, ℕ, suc, ◌+◌, ◌≤◌, Bool, true, false, cond, ◌||◌, List, [], ◌∷◌, ◌++◌, length, refl, arith}
-use Rattle.std.specs.List.{AllByRecursion as All}
+use Rattle.std.specs.List.{AllByRecursion}
 use Rattle.cuts.specs.Keys.{key<, Below, AtMost, KeyFits}
 use Rattle.cuts.specs.Nodes.{Cell, Branch, CellFits, cell_cost}
 use Rattle.cuts.specs.Cuts.{total}
@@ -44,7 +44,7 @@ Good under L lo hi (two l s r) =
 
 -- the cells' separators fit
 abbrev pub CellsFit : {X : Type 0} → List (Cell X) → Type 0
-CellsFit cs = All CellFits cs
+CellsFit cs = AllByRecursion CellFits cs
 
 abbrev pub lacking : {X : Type 0} → (X → Bool) → Grown X → ℕ
 lacking under (one x) = lacks under x

@@ -1,6 +1,6 @@
 -- The pairs of a tree, through every edit.
 use Rattle.std.proofs.Common.{◌≡◌, ℕ, zero, suc, Bool, true, false, cond, ◌||◌, leb, List, [], ◌∷◌, ◌++◌, sym, refl, ap, ◌∙◌, append_assoc}
-use Rattle.std.specs.List.{flat_map, AllByRecursion as All}
+use Rattle.std.specs.List.{flat_map, AllByRecursion}
 use Rattle.std.proofs.lemmas.List.{append-nil, take-append-drop}
 use Rattle.std.proofs.ByRecursion.{All-append, All-weaker}
 use Rattle.cuts.specs.Keys.{key<, Below, AtMost}
@@ -22,8 +22,8 @@ grown f (two l s r) = f l ++ f r
 
 -- an edit of a list of pairs that bears on one key alone
 pub record Local (e : List Pair → List Pair) (k : List ℕ) : Type 0 where
-  pub left : (xs ys : List Pair) → All (λ (q : Pair). Below k q.key) ys → e (xs ++ ys) ≡ e xs ++ ys
-  pub right : (xs ys : List Pair) → All (λ (q : Pair). Below q.key k) xs → e (xs ++ ys) ≡ xs ++ e ys
+  pub left : (xs ys : List Pair) → AllByRecursion (λ (q : Pair). Below k q.key) ys → e (xs ++ ys) ≡ e xs ++ ys
+  pub right : (xs ys : List Pair) → AllByRecursion (λ (q : Pair). Below q.key k) xs → e (xs ++ ys) ≡ xs ++ e ys
 
 pub insert_local : (k v : List ℕ) → Local (insert k v) k
 insert_local k v = record { left = insert_left k v; right = insert_right k v }
@@ -139,7 +139,7 @@ rooted_pairs n (two l s r) = ap (λ (x : List Pair). pairs n l ++ x) (append-nil
 
 -- the pairs rise
 pub rising_append : (xs ys : List Pair) → Rising xs → Rising ys
-    → All (λ (p : Pair). All (λ (q : Pair). Below p.key q.key) ys) xs → Rising (xs ++ ys)
+    → AllByRecursion (λ (p : Pair). AllByRecursion (λ (q : Pair). Below p.key q.key) ys) xs → Rising (xs ++ ys)
 rising_append [] ys h k a = k
 rising_append (x ∷ xs) ys h k a = (All-append _ xs ys h.0 a.0, rising_append xs ys h.1 k a.1)
 

@@ -1,6 +1,6 @@
 -- Insertion into a list of pairs, and deletion from it.
 use Rattle.std.proofs.Common.{◌≡◌, ℕ, List, [], ◌∷◌, ◌++◌, Some, None, refl, ◌∙◌, arith}
-use Rattle.std.specs.List.{AllByRecursion as All}
+use Rattle.std.specs.List.{AllByRecursion}
 use Rattle.std.proofs.ByRecursion.{All-weaker}
 use Rattle.cuts.specs.Keys.{Below}
 use Rattle.cuts.specs.Nodes.{Pair}
@@ -9,7 +9,7 @@ use Rattle.tree.specs.Maps.{pair, compared, insert, delete, lookup, Rising}
 use Rattle.tree.specs.Laws.{RisingPairsAreAMap}
 
 -- what holds of the pairs and of the new one holds after an insertion
-pub all_insert : (P : Pair → Type 0) (k v : List ℕ) (ps : List Pair) → P (pair k v) → All P ps → All P (insert k v ps)
+pub all_insert : (P : Pair → Type 0) (k v : List ℕ) (ps : List Pair) → P (pair k v) → AllByRecursion P ps → AllByRecursion P (insert k v ps)
 unfolding insert
 all_insert P k v [] n h = (n, tt)
 all_insert P k v (p ∷ ps) n h = elim (ways k p.key)
@@ -30,7 +30,7 @@ unfolding insert lookup
 lookup_insert k v k' [] = grind (arith, key_tells)
 lookup_insert k v k' (p ∷ ps) = let h = lookup_insert k v k' ps in grind (arith, key_tells)
 
-pub all_delete : (P : Pair → Type 0) (k : List ℕ) (ps : List Pair) → All P ps → All P (delete k ps)
+pub all_delete : (P : Pair → Type 0) (k : List ℕ) (ps : List Pair) → AllByRecursion P ps → AllByRecursion P (delete k ps)
 unfolding delete
 all_delete P k [] h = tt
 all_delete P k (p ∷ ps) h = elim (ways k p.key)
@@ -42,7 +42,7 @@ delete_rising k [] r = tt
 delete_rising k (p ∷ ps) r = elim (ways k p.key)
     [ less e g ↦ rw (e) r | more e g ↦ rw (e, g) (all_delete _ k ps r.0, delete_rising k ps r.1) | same e g s ↦ rw (e, g) r.1 ]
 
-pub lookup_above : (k : List ℕ) (ps : List Pair) → All (λ (q : Pair). Below k q.key) ps → lookup k ps ≡ None
+pub lookup_above : (k : List ℕ) (ps : List Pair) → AllByRecursion (λ (q : Pair). Below k q.key) ps → lookup k ps ≡ None
 unfolding lookup
 lookup_above k [] h = refl
 lookup_above k (p ∷ ps) h = let r = lookup_above k ps h.1 in grind (arith, key_tells)
@@ -58,36 +58,36 @@ lookup_delete k k' (p ∷ ps) r =
     grind (arith, key_tells)
 
 -- an insertion below what follows, and above what comes before
-pub insert_front : (k v : List ℕ) (ys : List Pair) → All (λ (q : Pair). Below k q.key) ys
+pub insert_front : (k v : List ℕ) (ys : List Pair) → AllByRecursion (λ (q : Pair). Below k q.key) ys
     → insert k v ys ≡ pair k v ∷ ys
 unfolding insert
 insert_front k v [] h = refl
 insert_front k v (y ∷ ys) h = let e = h.0 in rw e
 
-pub insert_left : (k v : List ℕ) (xs ys : List Pair) → All (λ (q : Pair). Below k q.key) ys
+pub insert_left : (k v : List ℕ) (xs ys : List Pair) → AllByRecursion (λ (q : Pair). Below k q.key) ys
     → insert k v (xs ++ ys) ≡ insert k v xs ++ ys
 unfolding insert
 insert_left k v [] ys h = insert_front k v ys h
 insert_left k v (x ∷ xs) ys h = let r = insert_left k v xs ys h in grind (arith, key_tells)
 
-pub insert_right : (k v : List ℕ) (xs ys : List Pair) → All (λ (q : Pair). Below q.key k) xs
+pub insert_right : (k v : List ℕ) (xs ys : List Pair) → AllByRecursion (λ (q : Pair). Below q.key k) xs
     → insert k v (xs ++ ys) ≡ xs ++ insert k v ys
 unfolding insert
 insert_right k v [] ys h = refl
 insert_right k v (x ∷ xs) ys h = let r = insert_right k v xs ys h.1 in grind (arith, key_tells)
 
-pub delete_front : (k : List ℕ) (ys : List Pair) → All (λ (q : Pair). Below k q.key) ys → delete k ys ≡ ys
+pub delete_front : (k : List ℕ) (ys : List Pair) → AllByRecursion (λ (q : Pair). Below k q.key) ys → delete k ys ≡ ys
 unfolding delete
 delete_front k [] h = refl
 delete_front k (y ∷ ys) h = let e = h.0 in rw e
 
-pub delete_left : (k : List ℕ) (xs ys : List Pair) → All (λ (q : Pair). Below k q.key) ys
+pub delete_left : (k : List ℕ) (xs ys : List Pair) → AllByRecursion (λ (q : Pair). Below k q.key) ys
     → delete k (xs ++ ys) ≡ delete k xs ++ ys
 unfolding delete
 delete_left k [] ys h = delete_front k ys h
 delete_left k (x ∷ xs) ys h = let r = delete_left k xs ys h in grind (arith, key_tells)
 
-pub delete_right : (k : List ℕ) (xs ys : List Pair) → All (λ (q : Pair). Below q.key k) xs
+pub delete_right : (k : List ℕ) (xs ys : List Pair) → AllByRecursion (λ (q : Pair). Below q.key k) xs
     → delete k (xs ++ ys) ≡ xs ++ delete k ys
 unfolding delete
 delete_right k [] ys h = refl

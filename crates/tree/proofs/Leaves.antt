@@ -1,6 +1,6 @@
 -- Leaves cut and joined.
 use Rattle.std.proofs.Common.{ℕ, zero, ◌<◌, ◌≤◌, List, [], ◌∷◌, ◌++◌, length, arith}
-use Rattle.std.specs.List.{AllByRecursion as All}
+use Rattle.std.specs.List.{AllByRecursion}
 use Rattle.std.proofs.ByRecursion.{All-append, All-weaker}
 use Rattle.cuts.specs.Keys.{Below, AtMost, KeyFits, separator}
 use Rattle.cuts.specs.Nodes.{Pair}
@@ -12,12 +12,12 @@ use Rattle.tree.specs.Sound.{Bound, none, before, Under}
 use Rattle.tree.proofs.Strict.{under_trans, Strict}
 use Rattle.tree.proofs.Flat.{rising_append}
 
-pub all_split : {X : Type 0} (P : X → Type 0) (xs ys : List X) → All P (xs ++ ys) → All P xs × All P ys
+pub all_split : {X : Type 0} (P : X → Type 0) (xs ys : List X) → AllByRecursion P (xs ++ ys) → AllByRecursion P xs × AllByRecursion P ys
 all_split P [] ys h = (tt, h)
 all_split P (x ∷ xs) ys h = let r = all_split P xs ys h.1 in ((h.0, r.0), r.1)
 
 pub rising_split : (xs ys : List Pair) → Rising (xs ++ ys)
-    → Rising xs × Rising ys × All (λ (p : Pair). All (λ (q : Pair). Below p.key q.key) ys) xs
+    → Rising xs × Rising ys × AllByRecursion (λ (p : Pair). AllByRecursion (λ (q : Pair). Below p.key q.key) ys) xs
 rising_split [] ys h = (tt, h, tt)
 rising_split (x ∷ xs) ys h =
     let r = rising_split xs ys h.1 in
@@ -25,30 +25,30 @@ rising_split (x ∷ xs) ys h =
     ((a.0, r.0), r.1, (a.1, r.2))
 
 -- no key is above the last
-pub last_most : (xs : List Pair) → Rising xs → All (λ (p : Pair). AtMost p.key (last_key xs)) xs
+pub last_most : (xs : List Pair) → Rising xs → AllByRecursion (λ (p : Pair). AtMost p.key (last_key xs)) xs
 last_most [] h = tt
 last_most (x ∷ []) h = (less_self x.key, tt)
 last_most (x ∷ y ∷ ys) h =
     let r = last_most (y ∷ ys) h.1 in
     (most_trans x.key y.key _ (most_from_less x.key y.key h.0.0) r.0, r)
 
-pub first_least : (xs : List Pair) → Rising xs → All (λ (p : Pair). AtMost (first_key xs) p.key) xs
+pub first_least : (xs : List Pair) → Rising xs → AllByRecursion (λ (p : Pair). AtMost (first_key xs) p.key) xs
 first_least [] h = tt
 first_least (x ∷ xs) h = (less_self x.key, All-weaker _ _ (λ q b. most_from_less x.key q.key b) xs h.0)
 
-pub all_both : {X : Type 0} (P Q R : X → Type 0) → ((x : X) → P x → Q x → R x) → (xs : List X) → All P xs → All Q xs
-    → All R xs
+pub all_both : {X : Type 0} (P Q R : X → Type 0) → ((x : X) → P x → Q x → R x) → (xs : List X) → AllByRecursion P xs → AllByRecursion Q xs
+    → AllByRecursion R xs
 all_both P Q R f [] h k = tt
 all_both P Q R f (x ∷ xs) h k = (f x h.0 k.0, all_both P Q R f xs h.1 k.1)
 
 -- what holds of each holds of the last and the first
-pub last_holds : (P : List ℕ → Type 0) (xs : List Pair) → 0 < length xs → All (λ (p : Pair). P p.key) xs
+pub last_holds : (P : List ℕ → Type 0) (xs : List Pair) → 0 < length xs → AllByRecursion (λ (p : Pair). P p.key) xs
     → P (last_key xs)
 last_holds P [] n h = let bad : ⊥ = omega arith in absurd bad
 last_holds P (x ∷ []) n h = h.0
 last_holds P (x ∷ y ∷ ys) n h = last_holds P (y ∷ ys) (omega arith) h.1
 
-pub first_holds : (P : List ℕ → Type 0) (xs : List Pair) → 0 < length xs → All (λ (p : Pair). P p.key) xs
+pub first_holds : (P : List ℕ → Type 0) (xs : List Pair) → 0 < length xs → AllByRecursion (λ (p : Pair). P p.key) xs
     → P (first_key xs)
 first_holds P [] n h = let bad : ⊥ = omega arith in absurd bad
 first_holds P (x ∷ xs) n h = h.0

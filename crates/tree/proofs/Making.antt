@@ -1,6 +1,6 @@
 -- How many nodes an edit makes.
 use Rattle.std.proofs.Common.{◌≡◌, ℕ, zero, suc, ◌*◌, ◌<◌, ◌≤◌, Bool, true, false, cond, List, [], ◌∷◌, map, length, sym, refl, ap, ◌∙◌, subst, arith}
-use Rattle.std.specs.List.{AllByRecursion as All}
+use Rattle.std.specs.List.{AllByRecursion}
 use Rattle.cuts.specs.Keys.{AtMost}
 use Rattle.cuts.specs.Nodes.{Pair, Cell, Branch}
 use Rattle.cuts.specs.Cuts.{total}
@@ -112,13 +112,13 @@ module _ {X : Type 0} (under : X → Bool) (j : X → List ℕ → X → Grown X
 
 -- so an edit makes at most two nodes a level
 made_few : (e : List Pair → List Pair) (k : List ℕ) → Edits e k → (n : ℕ) (lo : List ℕ) (hi : Bound) (t : Tree n)
-    → AtMost lo k → Under k hi → Forked n t → Light n (Strict n) lo hi t → All (λ m. m ≤ 2) (made_below e k n t)
+    → AtMost lo k → Under k hi → Forked n t → Light n (Strict n) lo hi t → AllByRecursion (λ m. m ≤ 2) (made_below e k n t)
 unfolding made_below
 made_few e k ed zero lo hi t p q f h = tt
 made_few e k ed (suc n) lo hi t p q f h =
     let l = ranges_light n (Strict n) lo hi t.first t.rest h.1.0 in (
       two_new (underfull n) (join n) (edit e k n) k t f (settled e k ed n lo hi t p q h) l.1,
-      at_picked (Full n (Strict n)) (λ x. All (λ m. m ≤ 2) (made_below e k n x)) k
+      at_picked (Full n (Strict n)) (λ x. AllByRecursion (λ m. m ≤ 2) (made_below e k n x)) k
           (λ lo' hi' x p' q' z. made_few e k ed n lo' hi' x p' q' (full_forked n x (under_no n x z.0)) z.1)
           lo hi t.first t.rest p q h.1.0,
     )
@@ -128,7 +128,7 @@ unfolding made_below
 made_levels e k zero t = refl
 made_levels e k (suc n) t = ap suc (made_levels e k n _)
 
-two_each : (ms : List ℕ) → All (λ m. m ≤ 2) ms → total (λ m. m) ms ≤ 2 * length ms
+two_each : (ms : List ℕ) → AllByRecursion (λ m. m ≤ 2) ms → total (λ m. m) ms ≤ 2 * length ms
 unfolding total
 two_each [] h = omega arith
 two_each (m ∷ ms) h = let r = two_each ms h.1 in omega arith

@@ -1,6 +1,6 @@
 -- Searches down a tree find what the list of its pairs has.
 use Rattle.std.proofs.Common.{◌≡◌, ℕ, zero, suc, ◌<◌, Bool, true, false, cond, ltb, List, [], ◌∷◌, ◌++◌, length, Some, None, Option, sym, refl, ap, ◌∙◌, arith, length-append}
-use Rattle.std.specs.List.{flat_map, AllByRecursion as All}
+use Rattle.std.specs.List.{flat_map, AllByRecursion}
 use Rattle.std.proofs.lemmas.List.{append-nil}
 use Rattle.std.proofs.ByRecursion.{All-weaker}
 use Rattle.std.proofs.lemmas.Bool.Decides.{nat_tests}
@@ -17,14 +17,14 @@ use Rattle.tree.proofs.Flat.{ranges_within, within}
 use Rattle.tree.proofs.Strict.{Ranges, Ordered, Strict, strict_tree, strict_ordered, ordered}
 
 -- a key that lies in the left part, or in the right one
-lookup_left : (k : List ℕ) (xs ys : List Pair) → All (λ (q : Pair). Below k q.key) ys
+lookup_left : (k : List ℕ) (xs ys : List Pair) → AllByRecursion (λ (q : Pair). Below k q.key) ys
     → lookup k (xs ++ ys) ≡ lookup k xs
 unfolding lookup
 lookup_left k [] [] h = refl
 lookup_left k [] (y ∷ ys) h = let r = lookup_left k [] ys h.1 in grind (arith, key_tells)
 lookup_left k (x ∷ xs) ys h = let r = lookup_left k xs ys h in grind (arith, key_tells)
 
-lookup_right : (k : List ℕ) (xs ys : List Pair) → All (λ (q : Pair). Below q.key k) xs
+lookup_right : (k : List ℕ) (xs ys : List Pair) → AllByRecursion (λ (q : Pair). Below q.key k) xs
     → lookup k (xs ++ ys) ≡ lookup k ys
 unfolding lookup
 lookup_right k [] ys h = refl
@@ -64,13 +64,13 @@ above_append k [] ys = refl
 above_append k (x ∷ xs) ys =
     elim (key< k x.key) as (λ t. cond t (Some x) (first_above k (xs ++ ys)) ≡ or_else (cond t (Some x) (first_above k xs)) (first_above k ys)) [ true ↦ refl | false ↦ above_append k xs ys ]
 
-above_none : (k : List ℕ) (xs : List Pair) → All (λ (q : Pair). AtMost q.key k) xs → first_above k xs ≡ None
+above_none : (k : List ℕ) (xs : List Pair) → AllByRecursion (λ (q : Pair). AtMost q.key k) xs → first_above k xs ≡ None
 unfolding first_above
 above_none k [] h = refl
 above_none k (x ∷ xs) h = rw h.0 (above_none k xs h.1)
 
 -- where all keys are above, the first is found, and what follows does not count
-above_some : (k : List ℕ) (xs : List Pair) (o : Option Pair) → 0 < length xs → All (λ (q : Pair). Below k q.key) xs
+above_some : (k : List ℕ) (xs : List Pair) (o : Option Pair) → 0 < length xs → AllByRecursion (λ (q : Pair). Below k q.key) xs
     → or_else (first_above k xs) o ≡ first_above k xs
 unfolding first_above
 above_some k [] o l h = let bad : ⊥ = omega arith in absurd bad

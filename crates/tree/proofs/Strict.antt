@@ -1,7 +1,7 @@
 -- Sound trees with strict bounds: a branch's first separator is above its lower bound, and not only at least there.
 -- The proofs work on these. Every sound tree is one, because no leaf under a branch is empty.
 use Rattle.std.proofs.Common.{ℕ, zero, suc, List, [], ◌∷◌, arith}
-use Rattle.std.specs.List.{AllByRecursion as All}
+use Rattle.std.specs.List.{AllByRecursion}
 use Rattle.cuts.specs.Keys.{Below}
 use Rattle.cuts.specs.Nodes.{Cell, PairFits, CellFits}
 use Rattle.cuts.specs.Cuts.{total}
@@ -28,8 +28,8 @@ Ordered zero lo hi t = Rising t × Within lo hi t
 Ordered (suc n) lo hi t = Ranges (Ordered n) lo hi t.first t.rest
 
 abbrev pub Strict : (n : ℕ) → List ℕ → Bound → Tree n → Type 0
-Strict zero lo hi t = Rising t × Within lo hi t × All PairFits t
-Strict (suc n) lo hi t = Ranges (Full n (Strict n)) lo hi t.first t.rest × All CellFits t.rest
+Strict zero lo hi t = Rising t × Within lo hi t × AllByRecursion PairFits t
+Strict (suc n) lo hi t = Ranges (Full n (Strict n)) lo hi t.first t.rest × AllByRecursion CellFits t.rest
 
 abbrev pub StrictTree : BTree → Type 0
 StrictTree b = Light b.height (Strict b.height) [] none b.root × Forked b.height b.root

@@ -1,7 +1,7 @@
 -- Branches of a sound tree are wide, and so it is low.
 use Rattle.std.proofs.Common.{ℕ, zero, suc, ◌+◌, ◌*◌, ◌^◌, ◌≤◌, List, [], ◌∷◌, length, inl, inr, pow-suc, arith}
 use native.Mathlib.Nat.{pow-le-pow_right}
-use Rattle.std.specs.List.{AllByRecursion as All}
+use Rattle.std.specs.List.{AllByRecursion}
 use Rattle.std.proofs.lemmas.Bool.{cases_lt}
 use Rattle.cuts.specs.Nodes.{Cell, cell_cost}
 use Rattle.cuts.specs.Cuts.{total}
@@ -15,7 +15,7 @@ use Rattle.tree.proofs.Strict.{Rises, Strict, strict_tree}
 
 rises_each : {X : Type 0} (S : List ℕ → Bound → X → Type 0) (P : X → Type 0)
     → ((lo : List ℕ) (hi : Bound) (x : X) → S lo hi x → P x)
-    → (lo : List ℕ) (hi : Bound) (cs : List (Cell X)) → Rises S lo hi cs → All (λ c. P c.child) cs
+    → (lo : List ℕ) (hi : Bound) (cs : List (Cell X)) → Rises S lo hi cs → AllByRecursion (λ c. P c.child) cs
 rises_each S P f lo hi [] h = tt
 rises_each S P f lo hi (c ∷ cs) h = (f _ _ _ h.2, rises_each S P f c.separator hi cs h.3)
 

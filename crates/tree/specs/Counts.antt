@@ -1,6 +1,6 @@
 -- How many nodes a tree has, and how many an edit makes.
 use Rattle.std.specs.Prelude.{ℕ, zero, suc, ◌+◌, ◌≤◌, Bool, true, false, cond, List, [], ◌∷◌, length}
-use Rattle.std.specs.List.{AllByRecursion as All}
+use Rattle.std.specs.List.{AllByRecursion}
 use Rattle.cuts.specs.Nodes.{Pair, Cell, Branch}
 use Rattle.cuts.specs.Cuts.{total}
 use Rattle.tree.specs.Trees.{Tree, BTree, underfull}
@@ -66,7 +66,7 @@ abbrev pub children : {X : Type 0} → Branch X → ℕ
 children b = suc (length b.rest)
 
 abbrev pub EachChild : {X : Type 0} → (X → Type 0) → Branch X → Type 0
-EachChild P b = P b.first × All (λ c. P c.child) b.rest
+EachChild P b = P b.first × AllByRecursion (λ c. P c.child) b.rest
 
 abbrev pub Wide : (n : ℕ) → Tree n → Type 0
 Wide zero t = Unit {0}

@@ -1,6 +1,6 @@
 -- What holds of trees and their edits.
 use Rattle.std.specs.Prelude.{◌≡◌, ℕ, suc, ◌≤◌, Bool, List, length, Some, None, Option, ◌≢◌}
-use Rattle.std.specs.List.{AllByRecursion as All}
+use Rattle.std.specs.List.{AllByRecursion}
 use Rattle.cuts.specs.Keys.{Below, AtMost, KeyFits}
 use Rattle.cuts.specs.Nodes.{Pair, Branch}
 use Rattle.tree.specs.Maps.{insert, delete, lookup, first_above, Rising}
@@ -49,9 +49,9 @@ EditsChangeOneKey = (b : BTree) → SoundTree b → (k v : List ℕ) → KeyFits
 
 -- what is next after k in a map: a pair of it above k with no key of it in between, or none if no key is above k
 abbrev pub Next : List ℕ → List Pair → Option Pair → Type 0
-Next k ps None = All (λ (q : Pair). AtMost q.key k) ps
+Next k ps None = AllByRecursion (λ (q : Pair). AtMost q.key k) ps
 Next k ps (Some p) =
-    (lookup p.key ps ≡ Some p.value) × Below k p.key × All (λ (q : Pair). Below k q.key → AtMost p.key q.key) ps
+    (lookup p.key ps ≡ Some p.value) × Below k p.key × AllByRecursion (λ (q : Pair). Below k q.key → AtMost p.key q.key) ps
 
 abbrev pub FirstAboveIsTheNext : Type 0
 FirstAboveIsTheNext = (ps : List Pair) → Rising ps → (k : List ℕ) → Next k ps (first_above k ps)

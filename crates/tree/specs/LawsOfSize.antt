@@ -1,6 +1,6 @@
 -- How many nodes an edit makes and adds, and how low a sound tree is.
 use Rattle.std.specs.Prelude.{◌≡◌, ℕ, suc, ◌+◌, ◌*◌, ◌^◌, ◌≤◌, List, length}
-use Rattle.std.specs.List.{AllByRecursion as All}
+use Rattle.std.specs.List.{AllByRecursion}
 use Rattle.cuts.specs.Keys.{KeyFits}
 use Rattle.cuts.specs.Nodes.{Pair}
 use Rattle.tree.specs.Maps.{insert, delete}
@@ -18,7 +18,7 @@ MarkedStepsAreTheEdits = (e : List Pair → List Pair) (k : List ℕ) (n : ℕ) 
 
 -- at most two new nodes a level, and three at the root
 pub record MakesFewNodes (e : List Pair → List Pair) (k : List ℕ) (b : BTree) : Type 0 where
-  pub below : All (λ m. m ≤ 2) (made_below e k b.height b.root)
+  pub below : AllByRecursion (λ m. m ≤ 2) (made_below e k b.height b.root)
   pub at_root : made_at_root b.height (edit e k b.height b.root) ≤ 3
   pub in_all : made e k b ≤ 2 * levels b + 1
 

@@ -1,6 +1,6 @@
 -- A list of pairs whose keys rise, as an ordered map.
 use Rattle.std.specs.Prelude.{ℕ, cond, List, [], ◌∷◌, Some, None, Option}
-use Rattle.std.specs.List.{AllByRecursion as All}
+use Rattle.std.specs.List.{AllByRecursion}
 use Rattle.cuts.specs.Keys.{key<, Below}
 use Rattle.cuts.specs.Nodes.{Pair}
 
@@ -14,7 +14,7 @@ compared a b below same above = cond (key< a b) below (cond (key< b a) above sam
 -- each key is below all that follow it
 abbrev pub Rising : List Pair → Type 0
 Rising [] = Unit {0}
-Rising (p ∷ ps) = All (λ (q : Pair). Below p.key q.key) ps × Rising ps
+Rising (p ∷ ps) = AllByRecursion (λ (q : Pair). Below p.key q.key) ps × Rising ps
 
 unfoldable pub lookup : List ℕ → List Pair → Option (List ℕ)
 lookup k [] = None

@@ -1,6 +1,6 @@
 -- Sound trees.
 use Rattle.std.specs.Prelude.{ℕ, zero, suc, ◌<◌, ◌≤◌, List, [], ◌∷◌, length}
-use Rattle.std.specs.List.{AllByRecursion as All}
+use Rattle.std.specs.List.{AllByRecursion}
 use Rattle.cuts.specs.Keys.{Below, AtMost}
 use Rattle.cuts.specs.Nodes.{Pair, Cell, PairFits, CellFits}
 use Rattle.cuts.specs.Sizes.{usable, quarter}
@@ -18,7 +18,7 @@ Under k (before s) = Below k s
 
 -- keys from lo on, and under hi
 abbrev pub Within : List ℕ → Bound → List Pair → Type 0
-Within lo hi ps = All (λ (p : Pair). AtMost lo p.key × Under p.key hi) ps
+Within lo hi ps = AllByRecursion (λ (p : Pair). AtMost lo p.key × Under p.key hi) ps
 
 -- the first separator of the cells, or hi where there is none
 abbrev pub top : {X : Type 0} → Bound → List (Cell X) → Bound
@@ -44,8 +44,8 @@ Full n S lo hi t = (quarter ≤ cost n t) × Light n S lo hi t
 
 -- a node, with nothing said of its own cost, under which all is sound
 abbrev pub Sound : (n : ℕ) → List ℕ → Bound → Tree n → Type 0
-Sound zero lo hi t = Rising t × Within lo hi t × All PairFits t
-Sound (suc n) lo hi t = Spans (Full n (Sound n)) lo hi t.first t.rest × All CellFits t.rest
+Sound zero lo hi t = Rising t × Within lo hi t × AllByRecursion PairFits t
+Sound (suc n) lo hi t = Spans (Full n (Sound n)) lo hi t.first t.rest × AllByRecursion CellFits t.rest
 
 -- a branch has a separator
 abbrev pub Forked : (n : ℕ) → Tree n → Type 0

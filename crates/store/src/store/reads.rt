@@ -1,6 +1,6 @@
 // Get and after: the leaf page goes into the caller's buffer, and the number of the cell is the answer.
 ghost use Rattle.std.specs.Prelude.{◌≡◌, OnErr};
-ghost use Rattle.std.specs.List.{AllByRecursion as All};
+ghost use Rattle.std.specs.List.{AllByRecursion};
 ghost use Rattle.device.specs.Looking.{IsRead, Looks};
 ghost use Rattle.device.specs.Medium.{zeros};
 ghost use Rattle.tree.specs.Maps.{first_above};
