@@ -4,7 +4,6 @@ ghost use Rattle.device.specs.History.{Happens, did_read, did_write, did_sync, p
 ghost use Rattle.disks.specs.Fuses.{renewed};
 ghost use Rattle.disks.specs.Banks.{pages_of, Admits, BankReads, BankWrites};
 ghost use Rattle.disks.specs.Through.{through_medium, NeverVolatile};
-ghost use Rattle.std.proofs.Common.{rules};
 
 use crate::bank::Bank;
 use crate::fuse::Fuse;
@@ -57,7 +56,7 @@ impl Reader for WriteThrough {
 
     ghost past = { λ _ h. NeverVolatile h };
 
-    ghost whole = { Prim.search rules };
+    ghost whole = { λ d p h. d.bank.memory.sized p h };
 
     fn pages(&self) -> u32 {
         self.bank.memory.len()

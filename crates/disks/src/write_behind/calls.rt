@@ -3,7 +3,6 @@ ghost use Rattle.device.specs.Medium.{zeros};
 ghost use Rattle.device.specs.History.{Happens, did_read, did_write, did_sync, power_returned};
 ghost use Rattle.disks.specs.Banks.{pages_of, size_of};
 ghost use Rattle.disks.specs.BehindCalls.{durable_of, changed_of, behind_medium, behind_past, BehindReads, BehindWrites, BehindSyncs, BehindReturns};
-ghost use Rattle.std.proofs.Common.{rules, arith};
 
 use crate::bank::Bank;
 use crate::fuse::Fuse;
@@ -70,7 +69,7 @@ impl Reader for WriteBehind {
 
     ghost past = { behind_past };
 
-    ghost whole = { first_of (Prim.search rules, Prim.grind (arith, Self.row.coded.inj)) };
+    ghost whole = { λ d p h. d.bank.memory.sized p h };
 
     fn pages(&self) -> u32 {
         self.bank.memory.len()
