@@ -1,5 +1,5 @@
 -- Versions of the tree on the device, and sound stores.
-use Rattle.std.specs.Prelude.{◌≡◌, ℕ, ◌+◌, ◌-◌, ◌%◌, Bool, true, false, List, Some}
+use Rattle.std.specs.Prelude.{◌≡◌, ℕ, ◌+◌, ◌-◌, ◌%◌, Bool, true, false, List, [], Some}
 use Rattle.std.specs.List.{AllByRecursion}
 use Rattle.device.specs.Medium.{Medium}
 use Rattle.cuts.specs.Nodes.{Pair}
@@ -52,6 +52,11 @@ Sound m Shut held = Unit {0}
 Sound m (Idle x) held = Committed m x held.committed.marked
 Sound m (InTransaction x w) held =
     Committed m x held.committed.marked × Stands m w held.working.marked × (w.commit ≡ x.commit + 1)
+
+-- a store that has kept nothing: no page is marked
+pub record Forgotten (held : Held) : Type 0 where
+  pub committed : MarksAre held.committed.marked []
+  pub working : MarksAre held.working.marked []
 
 -- the model that a store is
 abbrev pub model_of : (m : ℕ → List ℕ) → State → Model

@@ -6,7 +6,7 @@ ghost use Rattle.store.specs.Acting.{Acts};
 ghost use Rattle.store.specs.Calls.{Obeys};
 ghost use Rattle.store.specs.Formatting.{Fresh};
 ghost use Rattle.store.specs.Model.{formats};
-ghost use Rattle.store.specs.Versions.{Sound};
+ghost use Rattle.store.specs.Versions.{Forgotten, Sound};
 ghost use Rattle.store.specs.declared.state.State.TheVariants.{Shut};
 
 use crate::formatting::lay_out;
@@ -39,6 +39,7 @@ impl<D: PowerCycle> Store<D> {
     pub fn power_return(&mut self)
         ensures device { Happens (D.Reader.past self.old.device) (D.Reader.medium self.old.device) power_returned (D.Reader.past self.new.device) (D.Reader.medium self.new.device) }
         ensures shut { self.new.state ≡ Shut }
+        ensures forgotten { Forgotten self.new.held }
     {
         self.device.power_return();
         self.state = State::Shut;

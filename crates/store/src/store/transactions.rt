@@ -2,7 +2,7 @@
 ghost use Rattle.std.specs.Prelude.{◌≡◌};
 ghost use Rattle.store.specs.Calls.{Obeys, granted};
 ghost use Rattle.store.specs.Model.{begins, aborts};
-ghost use Rattle.store.specs.Versions.{Sound};
+ghost use Rattle.store.specs.Versions.{Forgotten, Sound};
 ghost use Rattle.store.specs.declared.state.State.TheVariants.{Shut};
 
 use crate::state::{Held, State};
@@ -18,6 +18,7 @@ impl<D: Device> Store<D> {
     pub fn new(device: D) -> Self
         ensures device { result.device ≡ device }
         ensures shut { result.state ≡ Shut }
+        ensures forgotten { Forgotten result.held }
     {
         Store {
             device,
