@@ -45,10 +45,12 @@ def functions(files):
                 continue
             indent = line[: len(line) - len(line.lstrip())]
             end = at
-            while end + 1 < len(lines) and lines[end] != indent + "}" and not lines[end].rstrip().endswith(";"):
+            while end < len(lines) and not re.search(r"[;{]$", lines[end]) and lines[end] != indent + "{":
                 end += 1
-            if lines[end] != indent + "}":
+            if end == len(lines) or lines[end].endswith(";"):
                 continue
+            while lines[end] != indent + "}":
+                end += 1
             body = [code(text) for text in lines[at : end + 1] if not re.match(r"\s*(requires|ensures)\b", text)]
             shape = []
             for token in TOKEN.findall("\n".join(body)):
