@@ -12,9 +12,10 @@ use Rattle.page.specs.Kinds.{branch_body, branch_good, branch_key, cell_of}
 use Rattle.page.specs.Layout.{cost}
 use Rattle.page.specs.Reading.{every, rising}
 use Rattle.page.specs.Words.{word32}
-use Rattle.page.proofs.Branches.{total_cells, length_good}
+use Rattle.page.specs.Goods.{branch_costs}
+use Rattle.page.proofs.Items.{items_cost}
+use Rattle.page.proofs.Branches.{length_good}
 use Rattle.page.proofs.BranchOrders.{rising_swap}
-use Rattle.page.proofs.Cuts.{cost_total}
 use Rattle.page.proofs.Pages.{cost_append, cost_one, cost_split, cost_drop, four_bytes, split_cells}
 use Rattle.page.proofs.Parts.{map_take, map_drop, every_take, every_drop}
 use Rattle.page.proofs.Tested.{every_append, every_at}
@@ -66,11 +67,11 @@ module _ (xs : List (List ℕ)) (i : ℕ) (b : List ℕ) (h : i < length xs) (gx
 
 pub cost_take_cells : (xs : List (List ℕ)) (k : ℕ) → every branch_good xs ≡ true → total cell_cost (take k (map cell_of xs)) ≡ cost (take k xs)
 cost_take_cells xs k h =
-    ap (total cell_cost) (sym (map_take cell_of k xs)) ∙ (total_cells (take k xs) (every_take branch_good k xs h) ∙ sym (cost_total (take k xs)))
+    ap (total cell_cost) (sym (map_take cell_of k xs)) ∙ items_cost cell_of cell_cost branch_good branch_costs (take k xs) (every_take branch_good k xs h)
 
 pub cost_drop_cells : (xs : List (List ℕ)) (k : ℕ) → every branch_good xs ≡ true → total cell_cost (drop k (map cell_of xs)) ≡ cost (drop k xs)
 cost_drop_cells xs k h =
-    ap (total cell_cost) (sym (map_drop cell_of k xs)) ∙ (total_cells (drop k xs) (every_drop branch_good k xs h) ∙ sym (cost_total (drop k xs)))
+    ap (total cell_cost) (sym (map_drop cell_of k xs)) ∙ items_cost cell_of cell_cost branch_good branch_costs (drop k xs) (every_drop branch_good k xs h)
 
 pub cost_joined : (xs : List (List ℕ)) (k m : ℕ) → k ≤ m → cost (take k xs ++ drop m xs) ≤ cost xs
 cost_joined xs k m h = omega (arith, cost_append (take k xs) (drop m xs), cost_split k xs, cost_drop k m xs h)

@@ -9,15 +9,19 @@ use Rattle.tree.specs.Edits as tree
 use Rattle.tree.specs.Places.{separator_at, splice}
 use Rattle.page.specs.Branches.{BranchBytes}
 use Rattle.page.specs.Growths.{GrowsTo, spliced, spliced_two, light, merged, InsertsChild, ReplacesChildren, JoinsBranches}
-use Rattle.page.specs.Kinds.{cell_of}
-use Rattle.page.specs.Layout.{cost, cells_of}
+use Rattle.page.specs.Kinds.{branch_good, cell_of}
+use Rattle.page.specs.Layout.{cost, cells_of, left_of}
 use Rattle.page.specs.Views.{branch_node}
-use Rattle.page.specs.declared.branch.BranchPage.{BranchPage}
+use Rattle.page.specs.CellPages.{BranchPage}
 use Rattle.page.specs.declared.grown.Grown.{Grown}
 use Rattle.page.proofs.BranchLists.{splice_later, splice_length, splice_two_lem, replace_two, merge_one, add_cell, set_cell, drop_cell, cost_take_cells, cost_drop_cells, cost_joined}
-use Rattle.page.proofs.Branches.{total_cells}
-use Rattle.page.proofs.Cuts.{cost_total}
+use Rattle.page.specs.Goods.{branch_costs}
+use Rattle.page.proofs.Items.{items_cost}
 use Rattle.page.proofs.Pages.{cost_append}
+
+-- a branch by what its page says
+pub node_is : (p : BranchPage) (l : ℕ) (xs : List (List ℕ)) → left_of p.bytes ≡ l → cells_of p.bytes ≡ xs → branch_node p ≡ branch l (map cell_of xs)
+node_is p l xs e f = ap (λ m. branch m (map cell_of (cells_of p.bytes))) e ∙ ap (λ ys. branch l (map cell_of ys)) f
 
 -- another page for a child after the leftmost one
 pub later_is : (i x y : ℕ) (cs : List (Cell ℕ)) (b : Branch ℕ) → 1 ≤ i → i ≤ length cs
@@ -40,7 +44,7 @@ cells_few b k m p h =
     omega (arith, cost_take_cells xs k p.goods, cost_drop_cells xs m p.goods, cost_joined xs k m h, cost_append (take k xs) (drop m xs), p.laid.room)
 
 pub cells_cost : (b : List ℕ) → BranchBytes b → total cell_cost (map cell_of (cells_of b)) ≡ cost (cells_of b)
-cells_cost b p = total_cells (cells_of b) p.goods ∙ sym (cost_total (cells_of b))
+cells_cost b p = items_cost cell_of cell_cost branch_good branch_costs (cells_of b) p.goods
 
 as_grown : (s : List ℕ) {b b' : Branch ℕ} (o : Option (Grown BranchPage)) → b ≡ b' → GrowsTo s b o → GrowsTo s b' o
 as_grown s o e f = subst (λ z. GrowsTo s z o) e f

@@ -13,29 +13,18 @@ use Rattle.tree.specs.Trees.{branch}
 use Rattle.tree.specs.Edits.{one, two, give_up, cut_branch, fit}
 use Rattle.page.specs.Branches.{CutsBranch}
 use Rattle.page.specs.Growths.{fitted_branch}
+use Rattle.page.specs.Goods.{branch_parts_of, branch_costs}
 use Rattle.page.specs.Kinds.{branch_good, branch_key, cell_of}
 use Rattle.page.specs.Layout.{cost}
 use Rattle.page.specs.Reading.{every}
 use Rattle.page.specs.Splices.{body_cost}
 use Rattle.page.specs.Words.{word32}
 use Rattle.page.proofs.Cuts.{cost_total}
+use Rattle.page.proofs.Items.{items_cost}
 use Rattle.page.proofs.Pages.{front_is, back_is}
 use Rattle.page.proofs.Parts.{map_drop}
 
 -- what a good cell holds
-pub record BranchParts (b : List ℕ) : Type 0 where
-  pub some : 1 ≤ get_or b 0 0
-  pub short : get_or b 0 0 ≤ 64
-  pub long : length b ≡ 6 + get_or b 0 0
-
-pub branch_parts_of : (b : List ℕ) → branch_good b ≡ true → BranchParts b
-branch_parts_of b h =
-    let p = and_parts _ _ h in
-    let q = and_parts _ _ p.1 in
-    let r = and_parts _ _ q.1 in
-    let s = and_parts _ _ r.1 in
-    record { some = leb-true _ _ q.0; short = leb-true _ _ r.0; long = eqb-true _ _ s.1 }
-
 pub key_length : (b : List ℕ) → branch_good b ≡ true → length (branch_key b) ≡ get_or b 0 0
 key_length b h = let p = branch_parts_of b h in omega (arith, length-drop 6 b, p.long)
 
@@ -49,26 +38,6 @@ pub key_fits : (b : List ℕ) → branch_good b ≡ true → KeyFits (branch_key
 key_fits b h =
     let p = branch_parts_of b h in
     (omega (arith, key_length b h, p.some), omega (arith, key_length b h, p.short))
-
-pub cell_cost_lem : (b : List ℕ) → branch_good b ≡ true → cell_cost (cell_of b) ≡ body_cost b
-cell_cost_lem b h = let p = branch_parts_of b h in omega (arith, length-drop 6 b, p.long)
-
-pub total_cells : (xs : List (List ℕ)) → every branch_good xs ≡ true → total cell_cost (map cell_of xs) ≡ total body_cost xs
-unfolding total
-total_cells [] h = refl
-total_cells (x ∷ xs) h =
-    let p = and_parts _ _ h in
-    omega (arith, cell_cost_lem x p.0, total_cells xs p.1)
-
-pub middle_cells : (t a : ℕ) (xs : List (List ℕ)) → every branch_good xs ≡ true → middle cell_cost t a (map cell_of xs) ≡ middle body_cost t a xs
-unfolding middle
-middle_cells t a [] h = refl
-middle_cells t a (x ∷ xs) h =
-    let p = and_parts _ _ h in
-    let c = cell_cost_lem x p.0 in
-    let r = middle_cells t (a + body_cost x) xs p.1 in
-    ap (λ n. cond (ltb t (2 * (a + n))) 0 (suc (middle cell_cost t (a + n) (map cell_of xs)))) c
-    ∙ ap (λ n. cond (ltb t (2 * (a + body_cost x))) 0 (suc n)) r
 
 small_cells : (xs : List (List ℕ)) → every branch_good xs ≡ true → AllByRecursion (λ (b : List ℕ). body_cost b ≤ 72) xs
 small_cells [] h = tt
@@ -95,13 +64,13 @@ same_two x y z = cc
 
 module _ (x : ℕ) (xs : List (List ℕ)) (g : every branch_good xs ≡ true) where
   cells_cost : total cell_cost (map cell_of xs) ≡ cost xs
-  cells_cost = total_cells xs g ∙ sym (cost_total xs)
+  cells_cost = items_cost cell_of cell_cost branch_good branch_costs xs g
 
-  pub fits_one : (n : ℕ) (p : Branch ℕ) → cost xs ≤ 496 → n ≡ length xs → p ≡ branch x (between 0 n (map cell_of xs)) → one p ≡ fitted_branch (branch x (map cell_of xs))
+  pub fits_one : (p : Branch ℕ) → cost xs ≤ 496 → p ≡ branch x (map cell_of xs) → one p ≡ fitted_branch (branch x (map cell_of xs))
   unfolding fit
-  fits_one n p h e q =
+  fits_one p h q =
       let b = branch x (map cell_of xs) in
-      ap one (q ∙ ap (branch x) (between_to_end (map cell_of xs) 0 n (omega (arith, length-map xs cell_of))))
+      ap one q
       ∙ sym (ap (λ t. cond t (one b) (cut_branch b)) (le-leb _ _ (omega (arith, cells_cost))))
 
   pub fits_two : (i n : ℕ) (p q : Branch ℕ) (s : List ℕ) → 496 < cost xs → CutsBranch xs i → i ≡ middle cell_cost (total cell_cost (map cell_of xs)) 0 (map cell_of xs) → n ≡ length xs

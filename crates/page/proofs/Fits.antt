@@ -10,28 +10,26 @@ use Rattle.cuts.specs.Nodes.{Pair, pair_cost}
 use Rattle.tree.specs.Trees.{leaf_cost}
 use Rattle.tree.specs.Edits.{one, two, first_key, last_key, cut_leaf, fit}
 use Rattle.page.specs.Growths.{fitted}
+use Rattle.page.specs.Goods.{leaf_costs}
 use Rattle.page.specs.Kinds.{leaf_good, leaf_key, pair_of}
 use Rattle.page.specs.Layout.{cost}
 use Rattle.page.specs.Reading.{every}
 use Rattle.page.specs.Splices.{CutsLeaf}
-use Rattle.page.proofs.Cuts.{cost_total}
-use Rattle.page.proofs.Leaves.{total_pairs, first_key_lem, last_key_lem}
+use Rattle.page.proofs.Items.{items_cost}
+use Rattle.page.proofs.Leaves.{first_key_lem, last_key_lem}
 use Rattle.page.proofs.Parts.{map_take, map_drop}
 
 front : {X : Type 0} (i : ℕ) (ps : List X) → between 0 i ps ≡ take i ps
 front i ps = ap (λ n. take n ps) (omega arith)
 
-whole : {X : Type 0} (n : ℕ) (ps : List X) → length ps ≤ n → between 0 n ps ≡ ps
-whole n ps h = between_to_end ps 0 n h
-
 module _ (xs : List (List ℕ)) (g : every leaf_good xs ≡ true) where
   pub pairs_cost : leaf_cost (map pair_of xs) ≡ cost xs
-  pairs_cost = total_pairs xs g ∙ sym (cost_total xs)
+  pairs_cost = items_cost pair_of pair_cost leaf_good leaf_costs xs g
 
-  pub fits_one : (n : ℕ) (p : List Pair) → cost xs ≤ 496 → n ≡ length xs → p ≡ between 0 n (map pair_of xs) → one p ≡ fitted (map pair_of xs)
+  pub fits_one : (p : List Pair) → cost xs ≤ 496 → p ≡ map pair_of xs → one p ≡ fitted (map pair_of xs)
   unfolding fit
-  fits_one n p h e q =
-      ap one (q ∙ whole n (map pair_of xs) (omega (arith, length-map xs pair_of)))
+  fits_one p h q =
+      ap one q
       ∙ sym (ap (λ b. cond b (one (map pair_of xs)) (cut_leaf (map pair_of xs))) (le-leb _ _ (omega (arith, pairs_cost))))
 
   pub fits_two : (i n : ℕ) (l r : List Pair) (s : List ℕ) → 496 < cost xs → CutsLeaf xs i → i ≡ fair pair_cost 0 (map pair_of xs) → n ≡ length xs

@@ -8,51 +8,13 @@ use Rattle.cuts.specs.Nodes.{Pair, pair_cost}
 use Rattle.cuts.proofs.Balance.{leaf_parts}
 use Rattle.cuts.specs.Laws.{LeafPartsFit}
 use Rattle.tree.specs.Edits.{first_key, last_key}
+use Rattle.page.specs.Goods.{leaf_parts_of}
 use Rattle.page.specs.Kinds.{leaf_good, leaf_key, pair_of}
 use Rattle.page.specs.Layout.{cost}
 use Rattle.page.specs.Reading.{every}
 use Rattle.page.specs.Splices.{body_cost, CutsLeaf}
 use Rattle.page.proofs.Pages.{front_is, back_is}
 use Rattle.page.proofs.Cuts.{cost_total, total_end}
-
--- what a good cell holds
-pub record CellParts (b : List ℕ) : Type 0 where
-  pub some : 1 ≤ get_or b 0 0
-  pub key : get_or b 0 0 ≤ 64
-  pub value : get_or b 1 0 ≤ 128
-  pub long : length b ≡ 2 + get_or b 0 0 + get_or b 1 0
-
-pub leaf_parts_of : (b : List ℕ) → leaf_good b ≡ true → CellParts b
-leaf_parts_of b h =
-    let p = and_parts _ _ h in
-    let q = and_parts _ _ p.1 in
-    let r = and_parts _ _ q.1 in
-    let s = and_parts _ _ r.1 in
-    record { some = leb-true _ _ q.0; key = leb-true _ _ r.0; value = leb-true _ _ s.0; long = eqb-true _ _ s.1 }
-
-pub pair_cost_lem : (b : List ℕ) → leaf_good b ≡ true → pair_cost (pair_of b) ≡ body_cost b
-pair_cost_lem b h =
-    let p = leaf_parts_of b h in
-    omega (arith, length-take-le (get_or b 0 0) (drop 2 b) (omega (arith, length-drop 2 b, p.long)), length-drop (2 + get_or b 0 0) b, p.long, length-drop 2 b)
-
-pub total_pairs : (xs : List (List ℕ)) → every leaf_good xs ≡ true → total pair_cost (map pair_of xs) ≡ total body_cost xs
-unfolding total
-total_pairs [] h = refl
-total_pairs (x ∷ xs) h =
-    let p = and_parts _ _ h in
-    omega (arith, pair_cost_lem x p.0, total_pairs xs p.1)
-
-pub fair_pairs : (a : ℕ) (xs : List (List ℕ)) → every leaf_good xs ≡ true → fair pair_cost a (map pair_of xs) ≡ fair body_cost a xs
-unfolding fair
-fair_pairs a [] h = refl
-fair_pairs a (x ∷ xs) h =
-    let p = and_parts _ _ h in
-    let c = pair_cost_lem x p.0 in
-    let t = total_pairs xs p.1 in
-    let r = fair_pairs (a + body_cost x) xs p.1 in
-    ap (λ n. cond (ltb a n) (suc (fair pair_cost (a + pair_cost (pair_of x)) (map pair_of xs))) 0) t
-    ∙ (ap (λ n. cond (ltb a (total body_cost xs)) (suc (fair pair_cost (a + n) (map pair_of xs))) 0) c
-    ∙ ap (λ n. cond (ltb a (total body_cost xs)) (suc n) 0) r)
 
 small_cells : (xs : List (List ℕ)) → every leaf_good xs ≡ true → AllByRecursion (λ (b : List ℕ). body_cost b ≤ 196) xs
 small_cells [] h = tt

@@ -7,6 +7,7 @@ pub mod Faults
 pub mod Places
 pub mod Splices
 pub mod Cuts
+pub mod Items
 pub mod Sealing
 pub mod Sounds
 pub mod Parts

@@ -10,7 +10,7 @@ use Rattle.page.specs.Views.{pairs_in, key_at, value_at}
 use Rattle.page.specs.declared.fault.Cause.{Cause}
 use Rattle.page.proofs.Children.{shape_parts}
 use Rattle.page.proofs.Finds.{key_at_lem, value_at_lem}
-use Rattle.page.proofs.Leaves.{leaf_parts_of}
+use Rattle.page.specs.Goods.{leaf_parts_of}
 use Rattle.page.proofs.Pages.{edge_is}
 use Rattle.page.proofs.Tested.{every_at, part_is, edges_down}
 use Rattle.page.proofs.Wholes.{few_cells}

@@ -1,49 +1,69 @@
 -- Lists of cells in parts: the first of one page, perhaps a loose one, the last of a page.
-use Rattle.std.proofs.Common.{◌≡◌, ℕ, ◌+◌, ◌-◌, ◌<◌, ◌≤◌, List, [], ◌∷◌, ◌++◌, length, get_or, take, drop, Some, None, sym, ap, ◌∙◌, arith, Bor}
+use Rattle.std.proofs.Common.{◌≡◌, ℕ, ◌+◌, ◌-◌, ◌<◌, ◌≤◌, true, List, [], ◌∷◌, ◌++◌, length, get_or, take, drop, Option, Some, None, sym, ap, ◌∙◌, arith, Bor}
 use Rattle.std.specs.List.{between}
 use Rattle.std.specs.Option.{option_map, option_to_list}
 use Rattle.std.proofs.lemmas.List.{length-append, length-take-le, length-drop, get_or_append_left, get_or-append_right, get_or-take, get_or-drop}
 use Rattle.page.specs.Layout.{cost, cells_of}
-use Rattle.page.specs.Splices.{loose_in, cells_in, Spliced}
+use Rattle.page.specs.Lists.{cells_in}
+use Rattle.page.specs.Kinds.{Rules}
+use Rattle.page.specs.Reading.{every}
+use Rattle.page.specs.Splices.{loose, parts, Spliced}
+use Rattle.page.specs.declared.cell.Cell.{Ghosts}
 use Rattle.page.specs.declared.splice.Splice.{Splice}
 use Rattle.page.proofs.Pages.{cost_append, front_is, back_is}
+use Rattle.page.proofs.Parts.{every_take, every_drop}
+use Rattle.page.proofs.Tested.{every_append}
 
-pub one_loose : (s : Splice) (x : Bor (List ℕ)) → s.middle ≡ Some x → loose_in s ≡ x.now ∷ []
-one_loose s x e = ap (λ o. option_to_list (option_map (λ x. x.now) o)) e
+pub one_loose : (o : Option (Bor (List ℕ))) (x : Bor (List ℕ)) → o ≡ Some x → loose o ≡ x.now ∷ []
+one_loose o x e = ap loose e
 
-pub no_loose : (s : Splice) → s.middle ≡ None → loose_in s ≡ []
-no_loose s e = ap (λ o. option_to_list (option_map (λ x. x.now) o)) e
+pub no_loose : (o : Option (Bor (List ℕ))) → o ≡ None → loose o ≡ []
+no_loose o e = ap loose e
 
-module _ (kind : ℕ) (s : Splice) (p : Spliced kind s) where
-  front_length : length (take s.keep (cells_of s.front.now)) ≡ s.keep
-  front_length = length-take-le s.keep (cells_of s.front.now) p.keep
+-- a list over the same bytes
+pub parts_same : {a x b y : List ℕ} (keep : ℕ) (m : List (List ℕ)) (skip : ℕ) → a ≡ x → b ≡ y → parts a keep m b skip ≡ parts x keep m y skip
+parts_same {a} {x} {b} {y} keep m skip e f = ap (λ z. parts z keep m b skip) e ∙ ap (λ z. parts x keep m z skip) f
 
-  pub length_spliced : length (cells_in s) ≡ s.keep + length (loose_in s) + (length (cells_of s.back.now) - s.skip)
+pub length_same : {a x : List ℕ} → a ≡ x → length (cells_of a) ≡ length (cells_of x)
+length_same {a} {x} e = ap (λ z. length (cells_of z)) e
+
+module _ (k : Rules) (a : List ℕ) (keep : ℕ) (m : List (List ℕ)) (b : List ℕ) (skip : ℕ) (p : Spliced k a keep m b skip) where
+  front_length : length (take keep (cells_of a)) ≡ keep
+  front_length = length-take-le keep (cells_of a) p.keep
+
+  pub goods_spliced : every k.good (cells_of a) ≡ true → every k.good (cells_of b) ≡ true → every k.good (parts a keep m b skip) ≡ true
+  goods_spliced x y =
+      every_append k.good (take keep (cells_of a)) (m ++ drop skip (cells_of b)) (every_take k.good keep (cells_of a) x)
+      (every_append k.good m (drop skip (cells_of b)) p.good (every_drop k.good skip (cells_of b) y))
+
+  pub length_spliced : length (parts a keep m b skip) ≡ keep + length m + (length (cells_of b) - skip)
   length_spliced =
-      let a = take s.keep (cells_of s.front.now) in
-      let b = drop s.skip (cells_of s.back.now) in
       let k = p.skip in
-      omega (arith, front_length, length-append a (loose_in s ++ b), length-append (loose_in s) b, length-drop s.skip (cells_of s.back.now))
+      omega (arith, front_length, length-append (take keep (cells_of a)) (m ++ drop skip (cells_of b)), length-append m (drop skip (cells_of b)), length-drop skip (cells_of b))
 
-  pub at_front : (i : ℕ) → i < s.keep → get_or (cells_in s) i [] ≡ get_or (cells_of s.front.now) i []
+  pub at_front : (i : ℕ) → i < keep → get_or (parts a keep m b skip) i [] ≡ get_or (cells_of a) i []
   at_front i h =
-      get_or_append_left (take s.keep (cells_of s.front.now)) (loose_in s ++ drop s.skip (cells_of s.back.now)) [] i (omega (arith, front_length))
-      ∙ get_or-take s.keep (cells_of s.front.now) i [] h
+      get_or_append_left (take keep (cells_of a)) (m ++ drop skip (cells_of b)) [] i (omega (arith, front_length))
+      ∙ get_or-take keep (cells_of a) i [] h
 
-  after_front : (i : ℕ) → s.keep ≤ i → get_or (cells_in s) i [] ≡ get_or (loose_in s ++ drop s.skip (cells_of s.back.now)) (i - s.keep) []
+  after_front : (i : ℕ) → keep ≤ i → get_or (parts a keep m b skip) i [] ≡ get_or (m ++ drop skip (cells_of b)) (i - keep) []
   after_front i h =
-      get_or-append_right (take s.keep (cells_of s.front.now)) (loose_in s ++ drop s.skip (cells_of s.back.now)) s.keep i [] front_length h
+      get_or-append_right (take keep (cells_of a)) (m ++ drop skip (cells_of b)) keep i [] front_length h
 
-  pub at_middle : (c : List ℕ) (i : ℕ) → loose_in s ≡ c ∷ [] → i - s.keep ≡ 0 → s.keep ≤ i → get_or (cells_in s) i [] ≡ c
+  pub at_middle : (c : List ℕ) (i : ℕ) → m ≡ c ∷ [] → i - keep ≡ 0 → keep ≤ i → get_or (parts a keep m b skip) i [] ≡ c
   at_middle c i e z h =
-      after_front i h ∙ (ap (λ r. get_or (r ++ drop s.skip (cells_of s.back.now)) (i - s.keep) []) e ∙ ap (λ n. get_or (c ∷ drop s.skip (cells_of s.back.now)) n []) z)
+      after_front i h ∙ (ap (λ r. get_or (r ++ drop skip (cells_of b)) (i - keep) []) e ∙ ap (λ n. get_or (c ∷ drop skip (cells_of b)) n []) z)
 
-  pub at_back : (i j n : ℕ) → n ≡ length (loose_in s) → s.keep + n ≤ i → j ≡ s.skip + (i - s.keep - n) → get_or (cells_in s) i [] ≡ get_or (cells_of s.back.now) j []
+  pub at_back : (i j n : ℕ) → n ≡ length m → keep + n ≤ i → j ≡ skip + (i - keep - n) → get_or (parts a keep m b skip) i [] ≡ get_or (cells_of b) j []
   at_back i j n l h e =
       after_front i (omega arith)
-      ∙ (get_or-append_right (loose_in s) (drop s.skip (cells_of s.back.now)) n (i - s.keep) [] (sym l) (omega arith)
-      ∙ (get_or-drop s.skip (cells_of s.back.now) (i - s.keep - n) [] ∙ ap (λ z. get_or (cells_of s.back.now) z []) (sym e)))
+      ∙ (get_or-append_right m (drop skip (cells_of b)) n (i - keep) [] (sym l) (omega arith)
+      ∙ (get_or-drop skip (cells_of b) (i - keep - n) [] ∙ ap (λ z. get_or (cells_of b) z []) (sym e)))
 
-  pub cost_spliced : (n : ℕ) → n ≡ length (cells_of s.back.now) → cost (cells_in s) ≡ cost (between 0 s.keep (cells_of s.front.now)) + cost (loose_in s) + cost (between s.skip n (cells_of s.back.now))
+  pub cost_spliced : (n : ℕ) → n ≡ length (cells_of b) → cost (parts a keep m b skip) ≡ cost (between 0 keep (cells_of a)) + cost m + cost (between skip n (cells_of b))
   cost_spliced n e =
-      omega (arith, cost_append (take s.keep (cells_of s.front.now)) (loose_in s ++ drop s.skip (cells_of s.back.now)), cost_append (loose_in s) (drop s.skip (cells_of s.back.now)), ap cost (front_is s.keep (cells_of s.front.now)), ap cost (back_is s.skip n (cells_of s.back.now) e))
+      omega (arith, cost_append (take keep (cells_of a)) (m ++ drop skip (cells_of b)), cost_append m (drop skip (cells_of b)), ap cost (front_is keep (cells_of a)), ap cost (back_is skip n (cells_of b) e))
+
+-- each cell of a list is good
+pub list_good : {C : Type 0} {g : Ghosts C} (s : Splice C g) → every g.rules.good (cells_in s) ≡ true
+list_good {C} {g} s = goods_spliced g.rules _ _ _ _ _ s.spliced s.front.goods s.back.goods

@@ -13,8 +13,7 @@ use Rattle.page.specs.Shorts.{held}
 use Rattle.page.specs.Views.{leaf_pairs, branch_node, FindsKey}
 use Rattle.page.specs.declared.grown.Grown.{Grown}
 use Rattle.page.specs.declared.grown.Grown.TheVariants.{One, Two}
-use Rattle.page.specs.declared.leaf.LeafPage.{LeafPage}
-use Rattle.page.specs.declared.branch.BranchPage.{BranchPage}
+use Rattle.page.specs.CellPages.{LeafPage, BranchPage}
 
 abbrev pub leaf_grown : Grown LeafPage → tree.Grown (List Pair)
 leaf_grown (One p) = tree.one (leaf_pairs p)

@@ -40,6 +40,10 @@ branch_key b = drop 6 b
 abbrev pub cell_of : List ℕ → Cell ℕ
 cell_of b = record { separator = branch_key b; child = word32 b 2 }
 
+-- what a cell of a branch says
+abbrev pub BranchItem : Type 0
+BranchItem = Cell ℕ
+
 -- a leaf has no leftmost child
 abbrev pub leaf_rules : Rules
 leaf_rules = record { kind = 1; good = leaf_good; key = leaf_key; leftmost = λ p. (p == 0) }

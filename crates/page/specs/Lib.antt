@@ -1,10 +1,13 @@
 pub mod Words
 pub mod Layout
 pub mod Kinds
+pub mod Goods
 pub mod Reading
 pub mod Packed
 pub mod Places
 pub mod Splices
+pub mod Lists
+pub mod CellPages
 pub mod Views
 pub mod Pairs
 pub mod Shorts

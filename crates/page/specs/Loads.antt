@@ -1,4 +1,4 @@
--- Pages from a reader.
+-- Pages of cells from bytes, and from a reader.
 use Rattle.std.specs.Prelude.{◌≡◌, ℕ, List, ◌∷◌, Some, None, Ok, Err, Result}
 use Rattle.device.specs.Medium.{Medium}
 use Rattle.device.specs.Calls.{Reads}
@@ -6,8 +6,14 @@ use Rattle.device.specs.History.{History, did_read, step}
 use Rattle.device.specs.declared.fault.DeviceFault.{DeviceFault}
 use Rattle.page.specs.Kinds.{Rules}
 use Rattle.page.specs.Reading.{first_fault}
+use Rattle.page.specs.declared.fault.Cause.{Cause}
 use Rattle.page.specs.declared.fault.PageFault.{PageFault}
 use Rattle.page.specs.declared.fault.PageFault.TheVariants.{Device, Damaged}
+
+-- what reading the bytes b answers: a page of cells of the rules K, whose bytes are `bytes`
+abbrev pub ReadsPage : {T : Type 0} → Rules → (T → List ℕ) → List ℕ → Result T Cause → Type 0
+ReadsPage K bytes b (Ok t) = (bytes t ≡ b) × (first_fault K b ≡ None)
+ReadsPage K bytes b (Err c) = first_fault K b ≡ Some c
 
 -- one read of the device, which left b in the buffer
 abbrev pub OneRead : (History → Type 0) → Medium → ℕ → List ℕ → Result Unit DeviceFault → (History → Type 0) → Medium → Type 0

@@ -1,24 +1,25 @@
 -- The list of cells that an edit leaves.
-use Rattle.std.specs.Prelude.{ℕ, ◌+◌, ◌<◌, ◌≤◌, List, ◌++◌, length, take, drop}
+use Rattle.std.specs.Prelude.{◌≡◌, ℕ, ◌+◌, ◌<◌, ◌≤◌, true, List, ◌++◌, length, take, drop, Option}
+use Rattle.std.specs.Borrow.{Bor}
 use Rattle.std.specs.List.{between}
 use Rattle.std.specs.Option.{option_map, option_to_list}
-use Rattle.page.specs.Layout.{Laid, cost, cells_of}
-use Rattle.page.specs.declared.splice.Splice.{Splice}
+use Rattle.page.specs.Kinds.{Rules}
+use Rattle.page.specs.Layout.{cost, cells_of}
+use Rattle.page.specs.Reading.{every, rising}
 
-abbrev pub loose_in : Splice → List (List ℕ)
-loose_in s = option_to_list (option_map (λ x. x.now) s.middle)
+abbrev pub loose : Option (Bor (List ℕ)) → List (List ℕ)
+loose m = option_to_list (option_map (λ x. x.now) m)
 
-abbrev pub cells_in : Splice → List (List ℕ)
-cells_in s = take s.keep (cells_of s.front.now) ++ (loose_in s ++ drop s.skip (cells_of s.back.now))
+-- the first cells of the page a, the cells m, and the cells of the page b from one on
+abbrev pub parts : List ℕ → ℕ → List (List ℕ) → List ℕ → ℕ → List (List ℕ)
+parts a keep m b skip = take keep (cells_of a) ++ (m ++ drop skip (cells_of b))
 
--- pages and places from which such a list can be taken
-
-pub record Spliced (kind : ℕ) (s : Splice) : Type 0 where
-  pub front : Laid kind s.front.now
-  pub back : Laid kind s.back.now
-  pub keep : s.keep ≤ length (cells_of s.front.now)
-  pub skip : s.skip ≤ length (cells_of s.back.now)
-  pub small : cost (loose_in s) ≤ 196
+-- the pages have so many cells, the loose cells are good, and the keys of all rise
+pub record Spliced (k : Rules) (a : List ℕ) (first : ℕ) (m : List (List ℕ)) (b : List ℕ) (from : ℕ) : Type 0 where
+  pub keep : first ≤ length (cells_of a)
+  pub skip : from ≤ length (cells_of b)
+  pub good : every k.good m ≡ true
+  pub rises : rising k.key (parts a first m b from) ≡ true
 
 -- what one cell costs
 abbrev pub body_cost : List ℕ → ℕ

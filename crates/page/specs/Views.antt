@@ -1,12 +1,9 @@
 -- What pages hold: a leaf its pairs, a branch its children and separators.
-use Rattle.std.specs.Prelude.{◌≡◌, ℕ, ◌<◌, cond, List, [], map, length, get_or, Some, None, Ok, Err, Option, Result, ◌≢◌, nat_lt, slice_index_or}
+use Rattle.std.specs.Prelude.{◌≡◌, ℕ, ◌<◌, cond, List, [], map, length, get_or, Some, None, Option, ◌≢◌, nat_lt, slice_index_or}
 use Rattle.cuts.specs.Nodes.{Pair, Branch}
-use Rattle.page.specs.Kinds.{pair_of, cell_of, leaf_rules, branch_rules}
+use Rattle.page.specs.Kinds.{pair_of, cell_of}
 use Rattle.page.specs.Layout.{cells_of, left_of}
-use Rattle.page.specs.Reading.{first_fault}
-use Rattle.page.specs.declared.fault.Cause.{Cause}
-use Rattle.page.specs.declared.leaf.LeafPage.{LeafPage}
-use Rattle.page.specs.declared.branch.BranchPage.{BranchPage}
+use Rattle.page.specs.CellPages.{LeafPage, BranchPage}
 
 abbrev pub pairs_in : List ℕ → List Pair
 pairs_in bytes = map pair_of (cells_of bytes)
@@ -19,15 +16,6 @@ leaf_pairs p = pairs_in p.bytes
 
 abbrev pub branch_node : BranchPage → Branch ℕ
 branch_node p = branch_in p.bytes
-
--- what reading these bytes as a leaf answers, and as a branch
-abbrev pub ReadsLeaf : List ℕ → Result LeafPage Cause → Type 0
-ReadsLeaf b (Ok p) = (p.bytes ≡ b) × (first_fault leaf_rules b ≡ None)
-ReadsLeaf b (Err c) = first_fault leaf_rules b ≡ Some c
-
-abbrev pub ReadsBranch : List ℕ → Result BranchPage Cause → Type 0
-ReadsBranch b (Ok p) = (p.bytes ≡ b) × (first_fault branch_rules b ≡ None)
-ReadsBranch b (Err c) = first_fault branch_rules b ≡ Some c
 
 abbrev pub key_of : Pair → List ℕ
 key_of p = p.key

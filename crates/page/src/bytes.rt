@@ -1,9 +1,10 @@
-// Numbers and bytes in a page.
+// Numbers in the bytes of a page.
 ghost use Rattle.std.specs.Prelude.{◌≡◌, ◌+◌, ◌^◌, ◌<◌, ◌≤◌, length};
 ghost use Rattle.checksum.specs.Bytes.{le16, over};
-ghost use Rattle.page.specs.Words.{word16, word32};
+ghost use Rattle.page.specs.Layout.{cells_of, left_of, edge_at};
+ghost use Rattle.page.specs.Words.{word16};
 
-use device::Page;
+use device::{PAGE_SIZE, Page};
 
 pub(crate) fn read16(page: &Page, at: usize) -> usize
     requires { at + 2 ≤ 512 }
@@ -12,15 +13,9 @@ pub(crate) fn read16(page: &Page, at: usize) -> usize
     u16::from_le_bytes([page[at], page[at + 1]]) as usize
 }
 
-pub(crate) fn read32(page: &Page, at: usize) -> u32
-    requires { at + 4 ≤ 512 }
-    ensures { result ≡ word32 page.now at }
-{
-    u32::from_le_bytes([page[at], page[at + 1], page[at + 2], page[at + 3]])
-}
-
 pub(crate) fn write16(page: &mut Page, at: usize, value: usize)
-    requires { (at + 2 ≤ 512) × (value < 2 ^ 16) }
+    requires within { at + 2 ≤ 512 }
+    requires small { value < 2 ^ 16 }
     ensures { page.new ≡ over at (le16 value) page.old }
 {
     put(page, at, &(value as u16).to_le_bytes());
@@ -31,4 +26,28 @@ pub(crate) fn put(page: &mut Page, at: usize, bytes: &[u8])
     ensures { page.new ≡ over at bytes.now page.old }
 {
     page[at..at + bytes.len()].copy_from_slice(bytes);
+}
+
+pub(crate) fn count_of(page: &Page) -> usize
+    ensures { result ≡ length (cells_of page.now) }
+{
+    read16(page, 2)
+}
+
+pub(crate) fn leftmost_of(page: &Page) -> u32
+    ensures { result ≡ left_of page.now }
+{
+    u32::from_le_bytes([page[8], page[9], page[10], page[11]])
+}
+
+// Where cell i ends, which is where the cell before it begins.
+pub(crate) fn edge(page: &Page, i: usize) -> usize
+    requires { i ≤ 248 }
+    ensures { result ≡ edge_at page.now i }
+{
+    if i == 0 {
+        PAGE_SIZE
+    } else {
+        read16(page, 14 + 2 * i)
+    }
 }

@@ -1,5 +1,7 @@
-ghost use Rattle.std.specs.Prelude.{◌≡◌, true};
-ghost use Rattle.page.specs.Kinds.{Rules, leaf_rules, branch_rules};
+ghost use Rattle.std.specs.Prelude.{◌≡◌, ℕ, ◌+◌, ◌≤◌, List, true, length};
+ghost use Rattle.cuts.specs.Nodes.{Pair, pair_cost, cell_cost};
+ghost use Rattle.page.specs.Goods.{leaf_costs, leaf_small, branch_costs, branch_small};
+ghost use Rattle.page.specs.Kinds.{Rules, BranchItem, leaf_rules, branch_rules, pair_of, cell_of};
 
 // A kind of cells. Cells are the bytes that they have in a page; `rules` says what a kind means.
 pub trait Cell {
@@ -10,6 +12,13 @@ pub trait Cell {
     const HEAD: usize;
 
     ghost rules: { Rules };
+
+    // What a cell says, and the bytes of a page that this costs.
+    ghost Item: { Type 0 };
+
+    ghost item: { List ℕ → Item };
+
+    ghost item_cost: { Item → ℕ };
 
     fn kind_byte() -> u8
         ensures { result ≡ rules.kind };
@@ -25,6 +34,10 @@ pub trait Cell {
     // Whether a page may have this leftmost child.
     fn allows_leftmost(child: u32) -> bool
         ensures { result ≡ rules.leftmost child };
+
+    ghost costs: { (b : List ℕ) → rules.good b ≡ true → item_cost (item b) ≡ 2 + length b };
+
+    ghost small: { (b : List ℕ) → rules.good b ≡ true → 2 + length b ≤ 196 };
 }
 
 pub struct LeafCell;
@@ -38,6 +51,16 @@ impl Cell for LeafCell {
     const HEAD: usize = 2;
 
     ghost rules = { leaf_rules };
+
+    ghost Item = { Pair };
+
+    ghost item = { pair_of };
+
+    ghost item_cost = { pair_cost };
+
+    ghost costs = { leaf_costs };
+
+    ghost small = { leaf_small };
 
     fn kind_byte() -> u8 {
         Self::KIND
@@ -67,6 +90,16 @@ impl Cell for BranchCell {
     const HEAD: usize = 6;
 
     ghost rules = { branch_rules };
+
+    ghost Item = { BranchItem };
+
+    ghost item = { cell_of };
+
+    ghost item_cost = { cell_cost };
+
+    ghost costs = { branch_costs };
+
+    ghost small = { branch_small };
 
     fn kind_byte() -> u8 {
         Self::KIND

@@ -2,19 +2,28 @@
 #![tactic(auto)]
 
 mod branch;
+
 mod bytes;
+
 mod cell;
+
+mod cell_page;
+
+mod cells;
+
 mod draft;
-mod edit;
+
 mod fault;
+
 mod grown;
-mod known;
+
 pub mod laws;
+
 mod leaf;
-mod search;
+
 mod short;
+
 mod splice;
-mod test;
 
 pub use branch::BranchPage;
 pub use fault::{Cause, Damage, PageFault};

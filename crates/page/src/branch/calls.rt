@@ -1,14 +1,13 @@
 ghost use Rattle.page.specs.Growths.{PutsChild, InsertsChild, MergesChildren, ReplacesChildren, MakesRoot, JoinsBranches};
 
 use crate::branch::BranchPage;
-use crate::branch::edits::{one_is_light, placed, single, with_first, with_later, without};
 use crate::cell::BranchCell;
-use crate::draft::{leftmost_of, start};
+use crate::cell_page::CellPage;
+use crate::draft::Draft;
 use crate::grown::Grown;
 use crate::short::Short;
-use device::PAGE_SIZE;
 
-impl BranchPage {
+impl CellPage<BranchCell> {
     // The branch with another page for child i; none, if it has no such child.
     pub fn with_child(&self, i: usize, page: u32) -> Option<BranchPage>
         ensures { PutsChild self.now i page result }
@@ -17,9 +16,9 @@ impl BranchPage {
             return None;
         }
         if i == 0 {
-            return Some(with_first(self, page));
+            return Some(self.with_first(page));
         }
-        Some(with_later(self, i - 1, page))
+        Some(self.with_later(i - 1, page))
     }
 
     // The branch with two pages and the separator between them for child i: one page, or two; none, if it has no
@@ -33,10 +32,8 @@ impl BranchPage {
     ) -> Option<Grown<BranchPage>>
         ensures { InsertsChild self.now i left separator.now right result }
     {
-        match self.with_child(i, left) {
-            Some(base) => placed(&base, i, separator, right, &base, i),
-            None => None,
-        }
+        let base = self.with_child(i, left)?;
+        base.placed(i, separator, right, &base, i)
     }
 
     // The branch with one page for child i and the next; none, if there is no next.
@@ -46,10 +43,8 @@ impl BranchPage {
         if i >= self.len() {
             return None;
         }
-        match self.with_child(i, page) {
-            Some(base) => Some(without(&base, i)),
-            None => None,
-        }
+        let base = self.with_child(i, page)?;
+        Some(base.without_cell(i))
     }
 
     // The branch with two pages and another separator between them for child i and the next: one page, or two;
@@ -66,26 +61,21 @@ impl BranchPage {
         if i >= self.len() {
             return None;
         }
-        match self.with_child(i, left) {
-            Some(base) => placed(&base, i, separator, right, &base, i + 1),
-            None => None,
-        }
+        let base = self.with_child(i, left)?;
+        base.placed(i, separator, right, &base, i + 1)
     }
 
     // The root above two pages; none, if the separator has not 1 to 64 bytes.
     pub fn root(left: u32, separator: &[u8], right: u32) -> Option<BranchPage>
         ensures { MakesRoot left separator.now right result }
     {
-        if separator.len() < 1 {
+        let 1..=64 = separator.len() else {
             return None;
-        }
-        if separator.len() > 64 {
-            return None;
-        }
+        };
         let cell = Short::branch_cell(separator, right);
-        let mut empty = [0; PAGE_SIZE];
-        start::<BranchCell>(&mut empty, left);
-        Some(single(&empty, cell.as_slice(), left))
+        let mut draft = Draft::<BranchCell>::new(left);
+        draft.push(cell.as_slice());
+        Some(draft.finish())
     }
 
     // Two branches as one, with the separator between them: one page, or two; none, if neither is underfull, or that
@@ -93,16 +83,10 @@ impl BranchPage {
     pub fn join(&self, separator: &[u8], right: &BranchPage) -> Option<Grown<BranchPage>>
         ensures { JoinsBranches self.now separator.now right.now result }
     {
-        if !one_is_light(self, right) {
+        if !self.one_is_light(right) {
             return None;
         }
-        placed(
-            self,
-            self.len(),
-            separator,
-            leftmost_of(&right.bytes),
-            right,
-            0,
-        )
+        let cells = right.cells();
+        self.placed(self.len(), separator, cells.leftmost(), right, 0)
     }
 }

@@ -1,55 +1,24 @@
-ghost use Rattle.std.specs.Prelude.{◌≡◌, ◌+◌, ◌<◌, ◌≤◌, true, ◌||◌, [], ◌∷◌, ◌++◌, map, length, take, drop};
-ghost use Rattle.std.specs.List.{between};
+ghost use Rattle.std.specs.Prelude.{◌≡◌, ◌+◌, ◌<◌, ◌≤◌, true, ◌++◌, map, length, take, drop};
 ghost use Rattle.cuts.specs.Cuts.{total, middle};
 ghost use Rattle.cuts.specs.Nodes.{cell_cost};
 ghost use Rattle.tree.specs.Places.{separator_at};
 ghost use Rattle.tree.specs.Trees.{branch, cell};
 ghost use Rattle.page.specs.Branches.{CutsBranch, ascending, ends_below, starts_above};
-ghost use Rattle.page.specs.Growths.{around, cost_around, branch_grown, fitted_branch, light, GrowsTo};
+ghost use Rattle.page.specs.Growths.{around, cost_around, branch_grown, fitted_branch, GrowsTo};
 ghost use Rattle.page.specs.Kinds.{branch_good, branch_key, cell_of};
-ghost use Rattle.page.specs.Layout.{Laid, cost, cells_of};
-ghost use Rattle.page.specs.Reading.{every, rising};
+ghost use Rattle.page.specs.Layout.{cost};
+ghost use Rattle.page.specs.Lists.{cells_in};
 ghost use Rattle.page.specs.Shorts.{held};
-ghost use Rattle.page.specs.Splices.{cells_in, Spliced};
 ghost use Rattle.page.specs.Views.{branch_node};
 
 use crate::branch::BranchPage;
 use crate::branch::reads::child_of;
 use crate::cell::{BranchCell, Cell};
-use crate::draft::{count_of, key_at, leftmost_of};
-use crate::edit::{body, branch_cut, cost, len, part};
+use crate::cell_page::CellPage;
 use crate::grown::Grown;
 use crate::short::Short;
-use crate::splice::Splice;
+use crate::splice::{Splice, USABLE};
 use cuts::key_less;
-use device::Page;
-
-// The branch of the cells from one place up to another.
-fn branch_part(list: &Splice, from: usize, to: usize, leftmost: u32) -> BranchPage
-    requires spliced { Spliced 2 list.now }
-    requires goods { every branch_good (cells_in list.now) ≡ true }
-    requires rises { rising branch_key (cells_in list.now) ≡ true }
-    requires ordered { from ≤ to }
-    requires within { to ≤ length (cells_in list.now) }
-    requires room { cost (between from to (cells_in list.now)) ≤ 496 }
-    ensures { branch_node result ≡ branch leftmost (between from to (map cell_of (cells_in list.now))) }
-{
-    BranchPage {
-        bytes: part::<BranchCell>(list, from, to, leftmost),
-    }
-}
-
-// Which cell an overfull list gives up: the parts before and after it fit a page.
-fn overfull_cut(list: &Splice) -> usize
-    requires spliced { Spliced 2 list.now }
-    requires goods { every branch_good (cells_in list.now) ≡ true }
-    requires overfull { 496 < cost (cells_in list.now) }
-    requires few { cost (cells_in list.now) ≤ 691 }
-    ensures value { result ≡ middle cell_cost (total cell_cost (map cell_of (cells_in list.now))) 0 (map cell_of (cells_in list.now)) }
-    ensures parts { CutsBranch (cells_in list.now) result }
-{
-    branch_cut::<BranchCell>(list)
-}
 
 fn separator_of(cell: &[u8]) -> Short
     requires { branch_good cell.now ≡ true }
@@ -60,194 +29,161 @@ fn separator_of(cell: &[u8]) -> Short
     separator
 }
 
-// The cells as one branch, or as two where they are too many for one.
-fn fit(list: &Splice, leftmost: u32) -> Grown<BranchPage>
-    requires spliced { Spliced 2 list.now }
-    requires goods { every branch_good (cells_in list.now) ≡ true }
-    requires rises { rising branch_key (cells_in list.now) ≡ true }
-    requires few { cost (cells_in list.now) ≤ 691 }
-    ensures { branch_grown result ≡ fitted_branch (branch leftmost (map cell_of (cells_in list.now))) }
-{
-    let n = len::<BranchCell>(list);
-    if cost::<BranchCell>(list) <= 496 {
-        return Grown::One(branch_part(list, 0, n, leftmost));
+impl Splice<'_, BranchCell> {
+    // Which cell an overfull list gives up: the parts before and after it fit a page.
+    fn branch_cut(&self) -> usize
+        requires overfull { 496 < cost (cells_in self.now) }
+        requires few { cost (cells_in self.now) ≤ 691 }
+        ensures value { result ≡ middle cell_cost (total cell_cost (map cell_of (cells_in self.now))) 0 (map cell_of (cells_in self.now)) }
+        ensures parts { CutsBranch (cells_in self.now) result }
+    {
+        self.middle_cut()
     }
-    let at = overfull_cut(list);
-    let given = body::<BranchCell>(list, at);
-    Grown::Two(
-        branch_part(list, 0, at, leftmost),
-        separator_of(given),
-        branch_part(list, at + 1, n, child_of(given)),
-    )
-}
 
-// The cells as one branch.
-fn whole(list: &Splice, leftmost: u32) -> BranchPage
-    requires spliced { Spliced 2 list.now }
-    requires goods { every branch_good (cells_in list.now) ≡ true }
-    requires rises { rising branch_key (cells_in list.now) ≡ true }
-    requires room { cost (cells_in list.now) ≤ 496 }
-    ensures { branch_node result ≡ branch leftmost (map cell_of (cells_in list.now)) }
-{
-    let n = len::<BranchCell>(list);
-    branch_part(list, 0, n, leftmost)
-}
-
-// The same cells after another leftmost child.
-pub(crate) fn with_first(page: &BranchPage, leftmost: u32) -> BranchPage
-    ensures { branch_node result ≡ branch leftmost (branch_node page.now).rest }
-{
-    let list = Splice {
-        front: &page.bytes,
-        keep: 0,
-        middle: None,
-        back: &page.bytes,
-        skip: 0,
-    };
-    whole(&list, leftmost)
-}
-
-// All cells but one.
-pub(crate) fn without(page: &BranchPage, i: usize) -> BranchPage
-    requires { i < length (branch_node page.now).rest }
-    ensures { branch_node result ≡ branch (branch_node page.now).first (take i (branch_node page.now).rest ++ drop (i + 1) (branch_node page.now).rest) }
-{
-    let list = Splice {
-        front: &page.bytes,
-        keep: i,
-        middle: None,
-        back: &page.bytes,
-        skip: i + 1,
-    };
-    whole(&list, leftmost_of(&page.bytes))
-}
-
-// Another cell with the same separator in place of one.
-fn set_cell<'a>(page: &'a BranchPage, i: usize, cell: &'a [u8]) -> BranchPage
-    requires within { i < length (branch_node page.now).rest }
-    requires good { branch_good cell.now ≡ true }
-    requires same { branch_key cell.now ≡ separator_at i (branch_node page.now).rest }
-    ensures { branch_node result ≡ around page.now i (cell_of cell.now) page.now (i + 1) }
-{
-    let list = Splice {
-        front: &page.bytes,
-        keep: i,
-        middle: Some(cell),
-        back: &page.bytes,
-        skip: i + 1,
-    };
-    whole(&list, leftmost_of(&page.bytes))
-}
-
-// Another child for one of the cells.
-pub(crate) fn with_later(page: &BranchPage, i: usize, child: u32) -> BranchPage
-    requires { i < length (branch_node page.now).rest }
-    ensures { branch_node result ≡ around page.now i (cell (separator_at i (branch_node page.now).rest) child) page.now (i + 1) }
-{
-    let cell = Short::branch_cell(key_at::<BranchCell>(&page.bytes, i), child);
-    set_cell(page, i, cell.as_slice())
-}
-
-// The first cells of a branch, a new one, and the last cells of a branch.
-fn with_cell<'a>(
-    front: &'a BranchPage,
-    keep: usize,
-    cell: &'a [u8],
-    back: &'a BranchPage,
-    skip: usize,
-) -> Grown<BranchPage>
-    requires keep { keep ≤ length (branch_node front.now).rest }
-    requires skip { skip ≤ length (branch_node back.now).rest }
-    requires good { branch_good cell.now ≡ true }
-    requires rises { ascending (around front.now keep (cell_of cell.now) back.now skip).rest ≡ true }
-    requires few { cost_around front.now keep back.now skip ≤ 619 }
-    ensures { branch_grown result ≡ fitted_branch (around front.now keep (cell_of cell.now) back.now skip) }
-{
-    let list = Splice {
-        front: &front.bytes,
-        keep,
-        middle: Some(cell),
-        back: &back.bytes,
-        skip,
-    };
-    fit(&list, leftmost_of(&front.bytes))
-}
-
-// One cell alone.
-pub(crate) fn single<'a>(empty: &'a Page, cell: &'a [u8], leftmost: u32) -> BranchPage
-    requires laid { Laid 2 empty.now }
-    requires none { cells_of empty.now ≡ [] }
-    requires good { branch_good cell.now ≡ true }
-    ensures { branch_node result ≡ branch leftmost (cell_of cell.now ∷ []) }
-{
-    let list = Splice {
-        front: empty,
-        keep: 0,
-        middle: Some(cell),
-        back: empty,
-        skip: 0,
-    };
-    whole(&list, leftmost)
-}
-
-// Whether a separator is above those of the first cells.
-fn is_above(page: &BranchPage, n: usize, separator: &[u8]) -> bool
-    requires { n ≤ length (branch_node page.now).rest }
-    ensures { result ≡ ends_below (take n (branch_node page.now).rest) separator.now }
-{
-    if n == 0 {
-        return true;
+    // The cells as one branch, or as two where they are too many for one.
+    fn branches(&self, leftmost: u32) -> Grown<BranchPage>
+        requires { cost (cells_in self.now) ≤ 691 }
+        ensures { branch_grown result ≡ fitted_branch (branch leftmost (map cell_of (cells_in self.now))) }
+    {
+        if self.cost() <= USABLE {
+            return Grown::One(self.whole(leftmost));
+        }
+        let at = self.branch_cut();
+        let given = self.get(at);
+        Grown::Two(
+            self.part(0, at, leftmost),
+            separator_of(given),
+            self.part(at + 1, self.len(), child_of(given)),
+        )
     }
-    key_less(key_at::<BranchCell>(&page.bytes, n - 1), separator)
 }
 
-// Whether a separator is below those of the last cells.
-fn is_below(page: &BranchPage, n: usize, separator: &[u8]) -> bool
-    ensures { result ≡ starts_above separator.now (drop n (branch_node page.now).rest) }
-{
-    if n >= count_of(&page.bytes) {
-        return true;
+impl CellPage<BranchCell> {
+    // The same cells after another leftmost child.
+    pub(crate) fn with_first(&self, leftmost: u32) -> BranchPage
+        ensures { branch_node result ≡ branch leftmost (branch_node self.now).rest }
+    {
+        let cells = self.cells();
+        let list = Splice {
+            front: cells,
+            keep: 0,
+            middle: None,
+            back: cells,
+            skip: 0,
+        };
+        list.whole(leftmost)
     }
-    key_less(separator, key_at::<BranchCell>(&page.bytes, n))
-}
 
-// The first cells of a branch, a cell of this separator and child, and the last cells of a branch; none, if that
-// cannot be a separator there.
-pub(crate) fn placed(
-    front: &BranchPage,
-    keep: usize,
-    separator: &[u8],
-    child: u32,
-    back: &BranchPage,
-    skip: usize,
-) -> Option<Grown<BranchPage>>
-    requires keep { keep ≤ length (branch_node front.now).rest }
-    requires skip { skip ≤ length (branch_node back.now).rest }
-    requires few { cost_around front.now keep back.now skip ≤ 619 }
-    ensures { GrowsTo separator.now (around front.now keep (cell separator.now child) back.now skip) result }
-{
-    if separator.len() < 1 {
-        return None;
+    // All cells but one.
+    pub(crate) fn without_cell(&self, i: usize) -> BranchPage
+        requires { i < length (branch_node self.now).rest }
+        ensures { branch_node result ≡ branch (branch_node self.now).first (take i (branch_node self.now).rest ++ drop (i + 1) (branch_node self.now).rest) }
+    {
+        let cells = self.cells();
+        let list = Splice {
+            front: cells,
+            keep: i,
+            middle: None,
+            back: cells,
+            skip: i + 1,
+        };
+        list.whole(cells.leftmost())
     }
-    if separator.len() > 64 {
-        return None;
-    }
-    if !is_above(front, keep, separator) {
-        return None;
-    }
-    if !is_below(back, skip, separator) {
-        return None;
-    }
-    let cell = Short::branch_cell(separator, child);
-    Some(with_cell(front, keep, cell.as_slice(), back, skip))
-}
 
-// Whether one of two branches is underfull.
-pub(crate) fn one_is_light(left: &BranchPage, right: &BranchPage) -> bool
-    ensures { result ≡ (light left.now || light right.now) }
-{
-    if left.cost() < 124 {
-        return true;
+    // Another cell with the same separator in place of one.
+    fn set_cell<'a>(&'a self, i: usize, cell: &'a [u8]) -> BranchPage
+        requires within { i < length (branch_node self.now).rest }
+        requires good { branch_good cell.now ≡ true }
+        requires same { branch_key cell.now ≡ separator_at i (branch_node self.now).rest }
+        ensures { branch_node result ≡ around self.now i (cell_of cell.now) self.now (i + 1) }
+    {
+        let cells = self.cells();
+        let list = Splice {
+            front: cells,
+            keep: i,
+            middle: Some(cell),
+            back: cells,
+            skip: i + 1,
+        };
+        list.whole(cells.leftmost())
     }
-    right.cost() < 124
+
+    // Another child for one of the cells.
+    pub(crate) fn with_later(&self, i: usize, child: u32) -> BranchPage
+        requires { i < length (branch_node self.now).rest }
+        ensures { branch_node result ≡ around self.now i (cell (separator_at i (branch_node self.now).rest) child) self.now (i + 1) }
+    {
+        let cell = Short::branch_cell(self.cells().key(i), child);
+        self.set_cell(i, cell.as_slice())
+    }
+
+    // The first cells of this branch, a new one, and the last cells of a branch.
+    fn with_new<'a>(
+        &'a self,
+        keep: usize,
+        cell: &'a [u8],
+        back: &'a BranchPage,
+        skip: usize,
+    ) -> Grown<BranchPage>
+        requires keep { keep ≤ length (branch_node self.now).rest }
+        requires skip { skip ≤ length (branch_node back.now).rest }
+        requires good { branch_good cell.now ≡ true }
+        requires rises { ascending (around self.now keep (cell_of cell.now) back.now skip).rest ≡ true }
+        requires few { cost_around self.now keep back.now skip ≤ 619 }
+        ensures { branch_grown result ≡ fitted_branch (around self.now keep (cell_of cell.now) back.now skip) }
+    {
+        let front = self.cells();
+        let list = Splice {
+            front,
+            keep,
+            middle: Some(cell),
+            back: back.cells(),
+            skip,
+        };
+        list.branches(front.leftmost())
+    }
+
+    // Whether a separator is above those of the first cells.
+    fn ends_below(&self, n: usize, separator: &[u8]) -> bool
+        requires { n ≤ length (branch_node self.now).rest }
+        ensures { result ≡ ends_below (take n (branch_node self.now).rest) separator.now }
+    {
+        n == 0 || key_less(self.cells().key(n - 1), separator)
+    }
+
+    // Whether a separator is below those of the last cells.
+    fn starts_above(&self, n: usize, separator: &[u8]) -> bool
+        ensures { result ≡ starts_above separator.now (drop n (branch_node self.now).rest) }
+    {
+        let cells = self.cells();
+        n >= cells.len() || key_less(separator, cells.key(n))
+    }
+
+    // The first cells of this branch, a cell of this separator and child, and the last cells of a branch; none, if
+    // that cannot be a separator there.
+    pub(crate) fn placed(
+        &self,
+        keep: usize,
+        separator: &[u8],
+        child: u32,
+        back: &BranchPage,
+        skip: usize,
+    ) -> Option<Grown<BranchPage>>
+        requires keep { keep ≤ length (branch_node self.now).rest }
+        requires skip { skip ≤ length (branch_node back.now).rest }
+        requires few { cost_around self.now keep back.now skip ≤ 619 }
+        ensures { GrowsTo separator.now (around self.now keep (cell separator.now child) back.now skip) result }
+    {
+        let 1..=64 = separator.len() else {
+            return None;
+        };
+        if !self.ends_below(keep, separator) {
+            return None;
+        }
+        if !back.starts_above(skip, separator) {
+            return None;
+        }
+        let cell = Short::branch_cell(separator, child);
+        Some(self.with_new(keep, cell.as_slice(), back, skip))
+    }
 }

@@ -3,10 +3,10 @@ ghost use Rattle.std.specs.Prelude.{◌≡◌};
 ghost use Rattle.std.specs.Option.{option_map};
 ghost use Rattle.page.specs.Pairs.{seen, pair_seen, LiesIn};
 
+use crate::bytes::edge;
 use crate::cell::{Cell, LeafCell};
-use crate::draft::{cell_at, count_of, edge};
+use crate::cells::Cells;
 use crate::leaf::reads::value_of;
-use crate::test::shape_fault;
 use device::Page;
 
 // A pair of a leaf page, as parts of the page's bytes.
@@ -25,15 +25,14 @@ pub fn pair_in(bytes: &Page, cell: usize) -> Option<PairParts<'_>>
     ensures pair { option_map seen result ≡ pair_seen cell bytes.now }
     ensures parts { LiesIn bytes.now result }
 {
-    if shape_fault::<LeafCell>(bytes).is_some() {
+    let Ok(cells) = Cells::<LeafCell>::read(bytes) else {
+        return None;
+    };
+    if cell >= cells.len() {
         return None;
     }
-    if cell >= count_of(bytes) {
-        return None;
-    }
-    let body = cell_at::<LeafCell>(bytes, cell);
-    let key = <LeafCell as Cell>::key_of(body);
-    let value = value_of(body);
+    let key = cells.key(cell);
+    let value = value_of(cells.get(cell));
     let key_offset = edge(bytes, cell + 1) + <LeafCell as Cell>::HEAD;
     let value_offset = key_offset + key.len();
     Some(PairParts {

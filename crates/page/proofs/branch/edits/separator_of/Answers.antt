@@ -1,5 +1,6 @@
 use Rattle.std.proofs.Common.{length, ap, arith}
-use Rattle.page.proofs.Branches.{branch_parts_of, key_length}
+use Rattle.page.specs.Goods.{branch_parts_of}
+use Rattle.page.proofs.Branches.{key_length}
 use Rattle.page.proofs.branch.edits.separator_of.Goals as goal
 
 pub push-requires : goal.push-requires

@@ -1,6 +1,0 @@
-use Rattle.std.proofs.Common.{sym, ◌∙◌}
-use Rattle.std.proofs.lemmas.List.{length-map}
-use Rattle.page.proofs.branch.BranchPage.len.Goals as goal
-
-pub returns : goal.returns
-returns c = c.count_of.ensures ∙ sym (length-map _ _)

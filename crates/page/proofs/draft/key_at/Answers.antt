@@ -1,8 +1,0 @@
-use Rattle.std.proofs.Common.{ap, ◌∙◌}
-use Rattle.page.specs.Layout.{cells_of}
-use Rattle.page.proofs.Tested.{every_at}
-use Rattle.page.proofs.draft.key_at.Goals as goal
-
-pub key_of-requires : goal.key_of-requires
-key_of-requires g c =
-    ap g.C.Cell.rules.good c.cell_at.ensures ∙ every_at g.C.Cell.rules.good (cells_of c.args.page.now) c.args.i c.requires.goods c.requires.within

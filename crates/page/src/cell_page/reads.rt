@@ -1,0 +1,83 @@
+ghost use Rattle.std.specs.Prelude.{◌≡◌, true, ◌||◌, map, length, nat_lt};
+ghost use Rattle.cuts.specs.Cuts.{total};
+ghost use Rattle.cuts.specs.Sizes.{quarter};
+ghost use Rattle.page.specs.Layout.{cells_of};
+ghost use Rattle.page.specs.Loads.{ReadsPage, Loads};
+ghost use Rattle.page.specs.Reading.{rising};
+
+use crate::cell::Cell;
+use crate::cell_page::CellPage;
+use crate::cells::Cells;
+use crate::fault::{Cause, Damage, PageFault};
+use checksum::is_sealed;
+use device::{PAGE_SIZE, Page, Reader};
+use std::marker::PhantomData;
+
+// What a page other than the root costs at least: a quarter of what a page holds.
+const QUARTER: usize = 124;
+
+impl<C: Cell> CellPage<C> {
+    // The page of this kind that the bytes are, or what is wrong with them first.
+    pub fn read(bytes: &Page) -> Result<Self, Cause>
+        ensures { ReadsPage C.rules (λ p. p.bytes) bytes.now result }
+    {
+        if !is_sealed(bytes) {
+            return Err(Cause::Checksum);
+        }
+        Cells::<C>::read(bytes)?;
+        Ok(CellPage {
+            bytes: *bytes,
+            kind: PhantomData,
+        })
+    }
+
+    // The page of this kind on a page of the reader, tested before it is used.
+    pub fn load<R: Reader>(reader: &mut R, page: u32) -> Result<Self, PageFault>
+        ensures { Loads C.rules (λ p. p.bytes) (R.Reader.past reader.old) (R.Reader.medium reader.old) page result (R.Reader.past reader.new) (R.Reader.medium reader.new) }
+    {
+        let mut buffer = [0; PAGE_SIZE];
+        reader.read(page, &mut buffer)?;
+        match CellPage::read(&buffer) {
+            Ok(read) => Ok(read),
+            Err(cause) => Err(PageFault::Damaged(Damage { page, cause })),
+        }
+    }
+
+    pub fn bytes(&self) -> &Page
+        ensures { result.now ≡ self.now.bytes }
+    {
+        &self.bytes
+    }
+
+    pub(crate) fn cells(&self) -> Cells<'_, C>
+        ensures same { result.page.now ≡ self.now.bytes }
+        ensures rises { rising C.rules.key (cells_of result.page.now) ≡ true }
+    {
+        Cells {
+            page: &self.bytes,
+            kind: PhantomData,
+        }
+    }
+
+    // How many cells it has: the pairs of a leaf, and one less than the children of a branch.
+    pub fn len(&self) -> usize
+        ensures { result ≡ length (map C.item (cells_of self.now.bytes)) }
+    {
+        self.cells().len()
+    }
+
+    // The bytes that its cells cost.
+    pub fn cost(&self) -> usize
+        ensures { result ≡ total C.item_cost (map C.item (cells_of self.now.bytes)) }
+    {
+        let cells = self.cells();
+        cells.cost(0, cells.len())
+    }
+
+    // Whether one of two pages is underfull, as one of two that are joined has to be.
+    pub(crate) fn one_is_light(&self, other: &Self) -> bool
+        ensures { result ≡ (nat_lt (total C.item_cost (map C.item (cells_of self.now.bytes))) quarter || nat_lt (total C.item_cost (map C.item (cells_of other.now.bytes))) quarter) }
+    {
+        self.cost() < QUARTER || other.cost() < QUARTER
+    }
+}

@@ -1,0 +1,81 @@
+ghost use Rattle.std.specs.Prelude.{◌≡◌, ◌<◌, ◌≤◌, true, [], length, slice_index_or};
+ghost use Rattle.std.specs.List.{between};
+ghost use Rattle.page.specs.Layout.{cost, cells_of, left_of};
+ghost use Rattle.page.specs.Places.{up_to};
+ghost use Rattle.page.specs.Reading.{rising};
+
+use crate::bytes::{count_of, edge, leftmost_of};
+use crate::cell::Cell;
+use crate::cells::Cells;
+use cuts::key_less;
+
+impl<'a, C: Cell> Cells<'a, C> {
+    pub(crate) fn len(&self) -> usize
+        ensures { result ≡ length (cells_of self.now.page.now) }
+    {
+        count_of(self.page)
+    }
+
+    pub(crate) fn leftmost(&self) -> u32
+        ensures { result ≡ left_of self.now.page.now }
+    {
+        leftmost_of(self.page)
+    }
+
+    pub(crate) fn get(&self, i: usize) -> &'a [u8]
+        requires { i < length (cells_of self.now.page.now) }
+        ensures { result.now ≡ slice_index_or (cells_of self.now.page.now) i [] }
+    {
+        let page = self.page;
+        let end = edge(page, i);
+        let from = edge(page, i + 1);
+        &page[from..end]
+    }
+
+    pub(crate) fn key(&self, i: usize) -> &'a [u8]
+        requires { i < length (cells_of self.now.page.now) }
+        ensures { result.now ≡ C.rules.key (slice_index_or (cells_of self.now.page.now) i []) }
+    {
+        C::key_of(self.get(i))
+    }
+
+    // The bytes that the cells from i up to j cost.
+    pub(crate) fn cost(&self, i: usize, j: usize) -> usize
+        requires ordered { i ≤ j }
+        requires within { j ≤ length (cells_of self.now.page.now) }
+        ensures value { result ≡ cost (between i j (cells_of self.now.page.now)) }
+        ensures bound { result ≤ 496 }
+    {
+        2 * (j - i) + edge(self.page, i) - edge(self.page, j)
+    }
+
+    // Whether each key is below the next.
+    pub(crate) fn is_rising(&self) -> bool
+        ensures { result ≡ rising C.rules.key (cells_of self.now.page.now) }
+    {
+        for i in 1..self.len() {
+            if !key_less(self.key(i - 1), self.key(i)) {
+                return false;
+            }
+        }
+        true
+    }
+
+    // How many of the keys are at most the one sought: the place of the first greater one.
+    pub(crate) fn place_above(&self, sought: &[u8]) -> usize
+        requires { rising C.rules.key (cells_of self.now.page.now) ≡ true }
+        ensures { result ≡ up_to C.rules.key sought.now (cells_of self.now.page.now) }
+    {
+        let mut low = 0;
+        let mut high = self.len();
+        while low < high {
+            let mid = low + (high - low) / 2;
+            if key_less(sought, self.key(mid)) {
+                high = mid;
+            } else {
+                low = mid + 1;
+            }
+        }
+        low
+    }
+}
