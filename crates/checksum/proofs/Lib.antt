@@ -1,3 +1,4 @@
 pub mod Turn
 pub mod Parts
 pub mod Over
+pub mod Words

@@ -1,3 +1,4 @@
 pub mod Crc
 pub mod Bytes
 pub mod Sealed
+pub mod Kinds

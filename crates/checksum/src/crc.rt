@@ -11,11 +11,9 @@ pub(crate) const ALL_BITS: u32 = 0xffff_ffff;
 pub(crate) fn update(register: u32, bytes: &[u8]) -> u32
     ensures { result ≡ crc_from register bytes.now }
 {
-    let mut r = register;
-    for b in bytes {
-        r = (r >> 8) ^ entry(((r ^ *b as u32) & 255) as usize);
-    }
-    r
+    bytes
+        .iter()
+        .fold(register, |r, b| (r >> 8) ^ entry((r % 256) as u8 ^ b))
 }
 
 pub fn crc32(bytes: &[u8]) -> u32

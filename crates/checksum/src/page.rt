@@ -26,6 +26,5 @@ pub fn seal(page: &mut Page)
 pub fn is_sealed(page: &Page) -> bool
     ensures { result ≡ is_sealed page.now }
 {
-    let sum = checksum(page).to_le_bytes();
-    page[12..16] == sum[0..4]
+    page[12..16] == checksum(page).to_le_bytes()[..]
 }

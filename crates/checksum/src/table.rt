@@ -1,4 +1,4 @@
-ghost use Rattle.std.specs.Prelude.{◌≡◌, ◌<◌};
+ghost use Rattle.std.specs.Prelude.{◌≡◌};
 ghost use Rattle.checksum.specs.Crc.{steps};
 
 // What eight steps make of each byte.
@@ -261,9 +261,8 @@ const TABLE: [u32; 256] = [
     0x2d02_ef8d,
 ];
 
-pub(crate) fn entry(byte: usize) -> u32
-    requires { byte < 256 }
+pub(crate) fn entry(byte: u8) -> u32
     ensures { result ≡ steps 8 byte }
 {
-    TABLE[byte]
+    TABLE[byte as usize]
 }

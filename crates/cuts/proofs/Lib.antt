@@ -1,4 +1,3 @@
 pub mod Order
 pub mod Separators
 pub mod Balance
-mod Steps

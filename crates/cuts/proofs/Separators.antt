@@ -1,5 +1,6 @@
 -- The separator of two keys.
-use Rattle.std.proofs.Common.{◌≡◌, ℕ, zero, suc, ◌≤◌, List, [], ◌∷◌, length, take, refl, arith}
+use Rattle.std.proofs.Common.{◌≡◌, ℕ, zero, suc, ◌+◌, ◌≤◌, min, true, false, cond, nat_eq, List, [], ◌∷◌, length, take, refl, ap, arith}
+use Rattle.std.specs.List.{zip, prefix_len}
 use Rattle.std.proofs.lemmas.Bool.Decides.{nat_tests}
 use Rattle.cuts.specs.Keys.{key<, Below, AtMost, separator}
 use Rattle.cuts.specs.Laws.{SeparatorsAreShortest}
@@ -48,6 +49,23 @@ separator_some [] [] p = grind arith
 separator_some [] (y ∷ ys) p = omega arith
 separator_some (x ∷ xs) [] p = grind arith
 separator_some (x ∷ xs) (y ∷ ys) p = grind (arith, nat_tests)
+
+-- how many bytes two keys begin with alike
+abbrev pub shared : List ℕ → List ℕ → ℕ
+shared a b = prefix_len (λ p. nat_eq p.0 p.1) (zip a b)
+
+pub separator_taken : (a b : List ℕ) → take (min (length b) (shared a b + 1)) b ≡ separator a b
+unfolding separator
+separator_taken [] [] = refl
+separator_taken [] (y ∷ ys) = grind (arith, nat_tests)
+separator_taken (x ∷ xs) [] = refl
+separator_taken (x ∷ xs) (y ∷ ys) =
+    let more : min (suc (length ys)) (1 + shared xs ys + 1) ≡ suc (min (length ys) (shared xs ys + 1)) = omega arith in
+    let last : min (suc (length ys)) 1 ≡ 1 = omega arith in
+    elim (nat_eq x y) as (λ t. take (min (suc (length ys)) (cond t (1 + shared xs ys) 0 + 1)) (y ∷ ys) ≡ cond t (y ∷ separator xs ys) (y ∷ [])) [
+      | true ↦ rw more (ap (λ r. y ∷ r) (separator_taken xs ys))
+      | false ↦ rw last
+    ]
 
 pub separators_are_shortest_lem : SeparatorsAreShortest
 separators_are_shortest_lem a b p = record {

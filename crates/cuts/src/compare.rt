@@ -1,7 +1,8 @@
 ghost use Rattle.std.specs.Prelude.{◌≡◌, ◌≤◌, length, take};
 ghost use Rattle.cuts.specs.Keys.{key<, separator};
 
-// Whether the key `a` comes before the key `b`.
+// Whether the key `a` comes before the key `b`. It stays beside `<` since its contract ties std's order of byte
+// slices to `key<`, once for all who compare keys.
 pub fn key_less(a: &[u8], b: &[u8]) -> bool
     ensures { result ≡ key< a.now b.now }
 {
@@ -14,9 +15,6 @@ pub fn separator_len(left: &[u8], right: &[u8]) -> usize
     ensures within { result ≤ length right.now }
     ensures prefix { take result right.now ≡ separator left.now right.now }
 {
-    let mut i = 0;
-    while i < left.len() && i < right.len() && left[i] == right[i] {
-        i += 1;
-    }
-    if i < right.len() { i + 1 } else { i }
+    let shared = left.iter().zip(right).take_while(|(a, b)| a == b).count();
+    right.len().min(shared + 1)
 }

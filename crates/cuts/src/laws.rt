@@ -3,50 +3,34 @@ ghost use Rattle.cuts.specs.Laws.{SeparatorsAreShortest, LeafCutsAreFairest, Bra
 ghost use Rattle.cuts.specs.Laws.{LeafCutsFit, BranchCutsFit, OverfullLeavesAreCut, OverfullBranchesAreCut};
 ghost use Rattle.cuts.specs.Laws.{FilledBranchesHaveTwoCells};
 
-pub fn separators_are_shortest() -> u8
+pub fn separators_are_shortest()
     ensures { SeparatorsAreShortest }
-{
-    0
-}
+{}
 
-pub fn leaf_cuts_fit() -> u8
+pub fn leaf_cuts_fit()
     ensures { LeafCutsFit }
-{
-    0
-}
+{}
 
-pub fn branch_cuts_fit() -> u8
+pub fn branch_cuts_fit()
     ensures { BranchCutsFit }
-{
-    0
-}
+{}
 
-pub fn branch_cuts_are_just_past_half() -> u8
+pub fn branch_cuts_are_just_past_half()
     ensures { BranchCutsAreJustPastHalf }
-{
-    0
-}
+{}
 
-pub fn overfull_leaves_are_cut() -> u8
+pub fn overfull_leaves_are_cut()
     ensures { OverfullLeavesAreCut }
-{
-    0
-}
+{}
 
-pub fn overfull_branches_are_cut() -> u8
+pub fn overfull_branches_are_cut()
     ensures { OverfullBranchesAreCut }
-{
-    0
-}
+{}
 
-pub fn leaf_cuts_are_fairest() -> u8
+pub fn leaf_cuts_are_fairest()
     ensures { LeafCutsAreFairest }
-{
-    0
-}
+{}
 
-pub fn filled_branches_have_two_cells() -> u8
+pub fn filled_branches_have_two_cells()
     ensures { FilledBranchesHaveTwoCells }
-{
-    0
-}
+{}

@@ -1,6 +1,6 @@
 -- Soundness through every edit.
-use Rattle.std.proofs.Common.{◌≡◌, ℕ, zero, suc, ◌+◌, ◌<◌, ◌≤◌, Bool, true, false, cond, leb, List, [], ◌∷◌, ◌++◌, length, take, drop, sym, refl, ap, subst, arith}
-use Rattle.std.proofs.lemmas.List.{take-append-drop, length-drop}
+use Rattle.std.proofs.Common.{◌≡◌, ℕ, zero, suc, ◌+◌, ◌<◌, ◌≤◌, Bool, true, false, cond, leb, List, [], ◌∷◌, ◌++◌, length, take, drop, sym, refl, ap, subst, ◌∙◌, add-one, arith}
+use Rattle.std.proofs.lemmas.List.{take-append-drop, length-drop, drop-drop}
 use Rattle.std.proofs.ByRecursion.{All-append}
 use Rattle.std.proofs.lemmas.Bool.Decides.{nat_tests}
 use Rattle.cuts.specs.Keys.{Below, AtMost, KeyFits}
@@ -43,14 +43,6 @@ unfolding total
 total_some f [] h = h
 total_some f (x ∷ xs) h = omega arith
 
-pub drop_next : {X : Type 0} (i : ℕ) (xs : List X) → drop 1 (drop i xs) ≡ drop (suc i) xs
-drop_next zero xs = refl
-drop_next (suc i) [] = refl
-drop_next (suc i) (x ∷ xs) = drop_next i xs
-
-pub length_left : {X : Type 0} (i : ℕ) (xs : List X) → i < length xs → 0 < length (drop i xs)
-length_left i xs h = simp length-drop (omega arith)
-
 pub branch_cut_lem : (n : ℕ) (lo : List ℕ) (hi : Bound) (x : Tree n) (bs cs : List (Cell (Tree n)))
     → Ranges (Full n (Strict n)) lo hi x (bs ++ cs) → CellsFit (bs ++ cs)
     → 0 < length cs → quarter ≤ total cell_cost bs → total cell_cost bs ≤ usable → quarter ≤ total cell_cost (drop 1 cs)
@@ -73,11 +65,11 @@ cut_strict (suc n) lo hi t h p q =
     let i = middle cell_cost (total cell_cost t.rest) 0 t.rest in
     let c = overfull_branch usable (omega arith) t.rest h.1 p (omega arith) in
     let e = take-append-drop i t.rest in
-    let d = ap (total cell_cost) (drop_next i t.rest) in
+    let d = ap (total cell_cost) (drop-drop 1 i t.rest ∙ ap (λ n. drop n t.rest) (add-one i)) in
     branch_cut_lem n lo hi t.first (take i t.rest) (drop i t.rest)
     (subst (λ (u : List (Cell (Tree n))). Ranges (Full n (Strict n)) lo hi t.first u) (sym e) h.0)
     (subst (λ (u : List (Cell (Tree n))). CellsFit u) (sym e) h.1)
-    (length_left i t.rest c.0) c.1.0 c.1.1 (omega arith) (omega arith)
+    (simp length-drop (omega arith)) c.1.0 c.1.1 (omega arith) (omega arith)
 
 -- a node that may be overfull
 pub fit_strict : (n : ℕ) (lo : List ℕ) (hi : Bound) (t : Tree n) → Strict n lo hi t → cost n t ≤ usable + largest_pair

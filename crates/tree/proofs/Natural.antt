@@ -1,5 +1,6 @@
 -- The steps at a branch do not look into the children: they commute with any function of them.
-use Rattle.std.proofs.Common.{◌≡◌, ℕ, zero, suc, ◌+◌, Bool, true, false, cond, leb, List, [], ◌∷◌, ◌++◌, map, take, drop, sym, refl, ap, ◌∙◌, arith}
+use Rattle.std.proofs.Common.{◌≡◌, ℕ, zero, suc, ◌+◌, Bool, true, false, cond, leb, List, [], ◌∷◌, map, take, drop, sym, refl, ap, ◌∙◌, arith}
+use Rattle.std.proofs.lemmas.List.{take-map, drop-map, map-append}
 use Rattle.cuts.specs.Keys.{key<}
 use Rattle.cuts.specs.Nodes.{Cell, Branch, cell_cost}
 use Rattle.cuts.specs.Cuts.{total, middle}
@@ -7,7 +8,7 @@ use Rattle.cuts.specs.Sizes.{usable}
 use Rattle.tree.specs.Trees.{branch_cost}
 use Rattle.tree.specs.Edits.{Grown, one, two, give_up, cut_branch, fit, merge_branches, in_place, prepend, place, mend}
 use Rattle.tree.specs.Search.{picked, child_at}
-use Rattle.tree.specs.Places.{separator_at, splice, splice_two, map_cell, map_branch, map_grown}
+use Rattle.tree.specs.Places.{splice, splice_two, map_cell, map_branch, map_grown}
 use Rattle.tree.specs.Laws.{StepsCommute, StepsCommuteWithReading}
 
 module _ {X Y : Type 0} (f : X → Y) where
@@ -22,20 +23,6 @@ module _ {X Y : Type 0} (f : X → Y) where
   middle_map t a [] = refl
   middle_map t a (c ∷ cs) = let r = middle_map t (a + cell_cost c) cs in rw r
 
-  take_map : (i : ℕ) (cs : List (Cell X)) → map (map_cell f) (take i cs) ≡ take i (map (map_cell f) cs)
-  take_map zero cs = refl
-  take_map (suc i) [] = refl
-  take_map (suc i) (c ∷ cs) = ap (λ (r : List (Cell Y)). map_cell f c ∷ r) (take_map i cs)
-
-  drop_map : (i : ℕ) (cs : List (Cell X)) → map (map_cell f) (drop i cs) ≡ drop i (map (map_cell f) cs)
-  drop_map zero cs = refl
-  drop_map (suc i) [] = refl
-  drop_map (suc i) (c ∷ cs) = drop_map i cs
-
-  append_map : (bs cs : List (Cell X)) → map (map_cell f) (bs ++ cs) ≡ map (map_cell f) bs ++ map (map_cell f) cs
-  append_map [] cs = refl
-  append_map (b ∷ bs) cs = ap (λ (r : List (Cell Y)). map_cell f b ∷ r) (append_map bs cs)
-
   pub picked_map : (k : List ℕ) (cs : List (Cell X)) → picked k (map (map_cell f) cs) ≡ picked k cs
   picked_map k [] = refl
   picked_map k (c ∷ cs) = let r = picked_map k cs in rw r
@@ -44,11 +31,6 @@ module _ {X Y : Type 0} (f : X → Y) where
   child_at_map zero x cs = refl
   child_at_map (suc i) x [] = refl
   child_at_map (suc i) x (c ∷ cs) = child_at_map i c.child cs
-
-  pub separator_at_map : (i : ℕ) (cs : List (Cell X)) → separator_at i (map (map_cell f) cs) ≡ separator_at i cs
-  separator_at_map i [] = refl
-  separator_at_map zero (c ∷ cs) = refl
-  separator_at_map (suc i) (c ∷ cs) = separator_at_map i cs
 
   -- cut and join
   give_up_map : (x : X) (bs cs : List (Cell X))
@@ -61,7 +43,7 @@ module _ {X Y : Type 0} (f : X → Y) where
       let t = total_map b.rest in
       let m = middle_map (total cell_cost b.rest) 0 b.rest in
       let i = middle cell_cost (total cell_cost b.rest) 0 b.rest in
-      rw (t, m) (give_up_map b.first (take i b.rest) (drop i b.rest) ∙ (rw (take_map i b.rest, drop_map i b.rest)))
+      rw (t, m) (give_up_map b.first (take i b.rest) (drop i b.rest) ∙ (rw (← take-map (map_cell f) i b.rest, ← drop-map (map_cell f) i b.rest)))
 
   pub fit_map : (b : Branch X)
       → map_grown (map_branch f) (fit branch_cost cut_branch b) ≡ fit branch_cost cut_branch (map_branch f b)
@@ -76,7 +58,7 @@ module _ {X Y : Type 0} (f : X → Y) where
 
   pub merge_map : (l : Branch X) (s : List ℕ) (r : Branch X)
       → map_branch f (merge_branches l s r) ≡ merge_branches (map_branch f l) s (map_branch f r)
-  merge_map l s r = rw append_map
+  merge_map l s r = rw map-append
 
   -- place and mend
   pub in_place_map : (g : Grown X) (cs : List (Cell X))

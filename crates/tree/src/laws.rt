@@ -6,98 +6,66 @@ ghost use Rattle.tree.specs.Laws.{StepsCommuteWithReading};
 ghost use Rattle.tree.specs.LawsOfSize.{MarkedStepsAreTheEdits, EditsMakeFewNodes, EditsAddFewNodes, BranchesAreWide};
 ghost use Rattle.tree.specs.LawsOfSize.{SoundTreesAreLow};
 
-pub fn rising_pairs_are_a_map() -> u8
+pub fn rising_pairs_are_a_map()
     ensures { RisingPairsAreAMap }
-{
-    0
-}
+{}
 
-pub fn trees_are_maps() -> u8
+pub fn trees_are_maps()
     ensures { TreesAreMaps }
-{
-    0
-}
+{}
 
-pub fn puts_insert_and_removes_delete() -> u8
+pub fn puts_insert_and_removes_delete()
     ensures { PutsInsertAndRemovesDelete }
-{
-    0
-}
+{}
 
-pub fn the_empty_tree_is_sound() -> u8
+pub fn the_empty_tree_is_sound()
     ensures { TheEmptyTreeIsSound }
-{
-    0
-}
+{}
 
-pub fn edits_keep_trees_sound() -> u8
+pub fn edits_keep_trees_sound()
     ensures { EditsKeepTreesSound }
-{
-    0
-}
+{}
 
-pub fn search_finds_the_pair() -> u8
+pub fn search_finds_the_pair()
     ensures { SearchFindsThePair }
-{
-    0
-}
+{}
 
-pub fn edits_change_one_key() -> u8
+pub fn edits_change_one_key()
     ensures { EditsChangeOneKey }
-{
-    0
-}
+{}
 
-pub fn first_above_is_the_next() -> u8
+pub fn first_above_is_the_next()
     ensures { FirstAboveIsTheNext }
-{
-    0
-}
+{}
 
-pub fn after_finds_the_next_pair() -> u8
+pub fn after_finds_the_next_pair()
     ensures { AfterFindsTheNextPair }
-{
-    0
-}
+{}
 
-pub fn edits_go_by_place() -> u8
+pub fn edits_go_by_place()
     ensures { EditsGoByPlace }
-{
-    0
-}
+{}
 
-pub fn steps_commute_with_reading() -> u8
+pub fn steps_commute_with_reading()
     ensures { StepsCommuteWithReading }
-{
-    0
-}
+{}
 
-pub fn marked_steps_are_the_edits() -> u8
+pub fn marked_steps_are_the_edits()
     ensures { MarkedStepsAreTheEdits }
-{
-    0
-}
+{}
 
-pub fn edits_make_few_nodes() -> u8
+pub fn edits_make_few_nodes()
     ensures { EditsMakeFewNodes }
-{
-    0
-}
+{}
 
-pub fn edits_add_few_nodes() -> u8
+pub fn edits_add_few_nodes()
     ensures { EditsAddFewNodes }
-{
-    0
-}
+{}
 
-pub fn branches_are_wide() -> u8
+pub fn branches_are_wide()
     ensures { BranchesAreWide }
-{
-    0
-}
+{}
 
-pub fn sound_trees_are_low() -> u8
+pub fn sound_trees_are_low()
     ensures { SoundTreesAreLow }
-{
-    0
-}
+{}
