@@ -11,12 +11,13 @@ use Rattle.tree.specs.Places.{separator_at, splice, splice_two}
 use Rattle.page.specs.Kinds.{branch_body, branch_good, branch_key, cell_of}
 use Rattle.page.specs.Layout.{cost}
 use Rattle.page.specs.Reading.{every, rising}
-use Rattle.page.specs.Words.{word32}
+use Rattle.checksum.specs.Bytes.{word32}
 use Rattle.page.specs.Goods.{branch_costs}
 use Rattle.page.proofs.Items.{items_cost}
 use Rattle.page.proofs.Branches.{length_good}
 use Rattle.page.proofs.BranchOrders.{rising_swap}
-use Rattle.page.proofs.Pages.{cost_append, cost_one, cost_split, cost_drop, four_bytes, split_cells}
+use Rattle.page.proofs.Pages.{cost_append, cost_one, cost_split, cost_drop, split_cells}
+use Rattle.checksum.proofs.Words.{four_bytes}
 use Rattle.page.proofs.Parts.{map_take, map_drop, every_take, every_drop}
 use Rattle.page.proofs.Tested.{every_append, every_at}
 

@@ -18,7 +18,7 @@ use Rattle.page.specs.Kinds.{branch_good, branch_key, cell_of}
 use Rattle.page.specs.Layout.{cost}
 use Rattle.page.specs.Reading.{every}
 use Rattle.page.specs.Splices.{body_cost}
-use Rattle.page.specs.Words.{word32}
+use Rattle.checksum.specs.Bytes.{word32}
 use Rattle.page.proofs.Cuts.{cost_total}
 use Rattle.page.proofs.Items.{items_cost}
 use Rattle.page.proofs.Pages.{front_is, back_is}

@@ -13,7 +13,7 @@ use Rattle.page.specs.Kinds.{Rules, branch_key, branch_rules, cell_of}
 use Rattle.page.specs.Layout.{Laid, laid_out, cells_of, left_of, sum_of}
 use Rattle.page.specs.Places.{up_to}
 use Rattle.page.specs.Reading.{every, layout, rising, shape_fault, first_fault, sound}
-use Rattle.page.specs.Words.{word32}
+use Rattle.checksum.specs.Bytes.{word32}
 use Rattle.page.specs.declared.fault.Cause.{Cause}
 use Rattle.page.specs.declared.fault.Cause.TheVariants.{Checksum, Kind, Layout, Order}
 

@@ -4,11 +4,11 @@ use lib.Bits.{bit_xor, xor_lt}
 use Rattle.std.specs.List.{AllByRecursion}
 use Rattle.std.proofs.lemmas.Slice.Eq.{bytes_eq-Decides}
 use Rattle.std.proofs.lemmas.Bool.{false≢true}
-use Rattle.checksum.specs.Bytes.{le16, le32}
+use Rattle.checksum.specs.Bytes.{le16, le32, zeros}
 use Rattle.checksum.specs.Crc.{step, steps, crc_from, crc_of}
 use Rattle.checksum.specs.Sealed.{is_sealed}
 use Rattle.page.specs.Kinds.{Rules}
-use Rattle.page.specs.Layout.{bodies, offsets, cost, zeros, header, laid_out, page_of}
+use Rattle.page.specs.Layout.{bodies, offsets, cost, header, laid_out, page_of}
 use Rattle.page.specs.Laws.{Byte, PagesReadBack, NothingElseIsRead}
 use Rattle.page.specs.Reading.{first_fault, sound}
 use Rattle.page.proofs.Pages.{cells_are, leftmost_is}

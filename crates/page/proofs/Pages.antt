@@ -5,9 +5,9 @@ use Rattle.std.specs.List.{between}
 use Rattle.std.proofs.lemmas.Slice.{between_to_end}
 use Rattle.std.proofs.lemmas.List.FromFn.{fill_by_all, length-map-range_with_len}
 use Rattle.std.proofs.lemmas.List.{drop-drop, take-take, take-append-drop, drop_more, take_more, length-take-le, append_assoc, append-nil, length-append, take_at, drop_at, get_or_at, length-replicate, replicate-append-replicate}
-use Rattle.checksum.specs.Bytes.{le16, le32, over}
-use Rattle.page.specs.Words.{word16, word32}
-use Rattle.page.specs.Layout.{zeros, bodies, offsets, cost, header, laid_out, Shows, edge_at, cell_in, cells_of, left_of, sum_of, Laid}
+use Rattle.checksum.specs.Bytes.{le16, le32, over, word16, word32, zeros}
+use Rattle.checksum.proofs.Words.{four_bytes}
+use Rattle.page.specs.Layout.{bodies, offsets, cost, header, laid_out, Shows, edge_at, cell_in, cells_of, left_of, sum_of, Laid}
 
 -- where cell i ends, by the cells
 abbrev pub top : List (List ℕ) → ℕ → ℕ
@@ -186,14 +186,6 @@ cell_is {k} {bytes} {l} {q} {cells} i s h =
     let nc : length c ≡ top cells i - top cells (i + 1) = omega (arith, top_more cells i h, s.room) in
     let d : drop (top cells (i + 1)) bytes ≡ c ++ U = ap (drop (top cells (i + 1))) e ∙ drop_at P (c ++ U) _ np in
     ap (take (top cells i - top cells (i + 1))) d ∙ take_at c U _ nc
-
-pub four_bytes : (x : ℕ) → x < 4294967296 → x % 256 + x / 256 % 256 * 256 + x / 65536 % 256 * 65536 + x / 16777216 % 256 * 16777216 ≡ x
-four_bytes x h =
-    let q : x / 256 / 256 ≡ x / 65536 = div-div-eq-div-mul x 256 256 in
-    let r : x / 65536 / 256 ≡ x / 16777216 = div-div-eq-div-mul x 65536 256 in
-    let u : x / 16777216 < 256 = omega arith in
-    let v = mod-eq_of_lt u in
-    omega (arith, mod-add-div x 256, mod-add-div (x / 256) 256, mod-add-div (x / 65536) 256)
 
 pub leftmost_is : {k : ℕ} {bytes : List ℕ} {l q : ℕ} {cells : List (List ℕ)} → Shows k bytes l q cells → left_of bytes ≡ l
 unfolding laid_out word32

@@ -9,7 +9,8 @@ use Rattle.page.specs.declared.fault.Cause.{Cause}
 use Rattle.page.specs.declared.fault.Cause.TheVariants.{Checksum, Kind, Layout, Order}
 use Rattle.page.proofs.Pages.{cells_are, leftmost_is, laid_from}
 use Rattle.page.proofs.Sealing.{page_sealed}
-use Rattle.page.proofs.Tested.{Bytes, Good, good_from, layout_from}
+use Rattle.page.proofs.Tested.{Good, good_from, layout_from}
+use Rattle.checksum.proofs.Words.{Bytes}
 
 fault_by_lem : Bool → Bool → Bool → Bool → Option Cause
 fault_by_lem s e l r = cond (not s) (Some Checksum) (cond (not e) (Some Kind) (cond (not l) (Some Layout) (cond (not r) (Some Order) None)))

@@ -4,21 +4,13 @@ use Rattle.std.proofs.lemmas.List.FromFn.{get_or-map-range_with_len}
 use Rattle.std.proofs.lemmas.Slice.Eq.{bytes_eq-Decides}
 use Rattle.std.proofs.lemmas.List.{take_more, take-append-drop, drop-drop, length-drop, length-take-le, get_or-drop, drop_all, append_assoc}
 use Rattle.std.proofs.lemmas.Bool.{and_parts, and_from, cases_Bool, leb-true, le-leb, both_ways}
-use Rattle.checksum.specs.Bytes.{le16}
-use Rattle.page.specs.Words.{word16, word32}
+use Rattle.checksum.specs.Bytes.{le16, word16, word32}
+use Rattle.checksum.proofs.Words.{Bytes, word32_small, le16_back}
 use Rattle.page.specs.Kinds.{Rules}
 use Rattle.page.specs.Layout.{Laid, bodies, offsets, cells_of, cell_in, edge_at, left_of}
 use Rattle.page.specs.Reading.{every, layout}
 use Rattle.page.specs.Packed.{Packed}
 use Rattle.page.proofs.Pages.{top_more, top_low, edge_is, count_of, bodies_append, offsets_append}
-
--- each number is a byte
-abbrev pub Bytes : List ℕ → Type 0
-Bytes b = (i : ℕ) → get_or b i 0 < 256
-
-pub word32_small : (b : List ℕ) (at : ℕ) → Bytes b → word32 b at < 2 ^ 32
-unfolding word32
-word32_small b at h = omega (arith, h at, h (at + 1), h (at + 2), h (at + 3))
 
 pub every_append : (good : List ℕ → Bool) (xs ys : List (List ℕ)) → every good xs ≡ true → every good ys ≡ true → every good (xs ++ ys) ≡ true
 every_append good [] ys p q = q
@@ -74,14 +66,6 @@ module _ (k : ℕ) (b : List ℕ) (s : Laid k b) (i : ℕ) (h : i < length (cell
 
   pub edge_low : 16 + 2 * length (cells_of b) ≤ edge_at b (i + 1)
   edge_low = omega (arith, edge_is (i + 1) s (omega arith), top_low (cells_of b) (i + 1), s.room)
-
--- two bytes as the number that they hold
-pub le16_back : (x y : ℕ) → x < 256 → y < 256 → le16 (x + y * 256) ≡ x ∷ y ∷ []
-le16_back x y h l =
-    let e : (x + y * 256) % 256 ≡ x = omega arith in
-    let d : (x + y * 256) / 256 ≡ y = omega arith in
-    let f : (x + y * 256) / 256 % 256 ≡ y = ap (λ m. m % 256) d ∙ mod-eq_of_lt l in
-    cc
 
 take_two : (xs : List ℕ) (i : ℕ) → i + 2 ≤ length xs → take (i + 2) xs ≡ take i xs ++ (get_or xs i 0 ∷ get_or xs (i + 1) 0 ∷ [])
 take_two xs i h =

@@ -2,26 +2,12 @@
 use Rattle.std.proofs.Common.{◌≡◌, ℕ, suc, ◌+◌, ◌-◌, ◌*◌, ◌/◌, ◌%◌, ◌<◌, ◌≤◌, List, [], ◌∷◌, ◌++◌, length, get_or, take, drop, sym, refl, ap, ◌∙◌, mod-eq_of_lt, arith}
 use Rattle.std.proofs.lemmas.List.FromFn.{fill_by_all}
 use Rattle.std.proofs.lemmas.List.{take_all, take-append-drop, drop-drop, length-drop, length-append, length-take-le, get_or-take, get_or-drop, get_or_append_left, get_or-append_right, get_or-replicate, append_assoc}
-use Rattle.checksum.specs.Bytes.{le16, le32}
-use Rattle.page.specs.Words.{word16, word32}
+use Rattle.checksum.specs.Bytes.{le16, le32, word16, word32, zeros}
+use Rattle.checksum.proofs.Words.{le32_back, all_zero, Bytes, word32_small, le16_back}
 use Rattle.page.specs.Kinds.{Rules}
-use Rattle.page.specs.Layout.{Laid, zeros, bodies, offsets, cost, header, laid_out, cells_of, edge_at, left_of, sum_of}
+use Rattle.page.specs.Layout.{Laid, bodies, offsets, cost, header, laid_out, cells_of, edge_at, left_of, sum_of}
 use Rattle.page.specs.Packed.{Packed, Headed}
 use Rattle.page.proofs.Pages.{edge_is, count_of, lowest_is, length_offsets, length_zeros}
-use Rattle.page.proofs.Tested.{Bytes, word32_small, le16_back}
-
--- four bytes as the number that they hold
-pub le32_back : (x y z w : ℕ) → x < 256 → y < 256 → z < 256 → w < 256 → le32 (x + y * 256 + z * 65536 + w * 16777216) ≡ x ∷ y ∷ z ∷ w ∷ []
-le32_back x y z w hx hy hz hw =
-    let n = x + y * 256 + z * 65536 + w * 16777216 in
-    let a : n % 256 ≡ x = omega arith in
-    let b : n / 256 ≡ y + z * 256 + w * 65536 = omega arith in
-    let b' : (y + z * 256 + w * 65536) % 256 ≡ y = omega arith in
-    let d : n / 65536 ≡ z + w * 256 = omega arith in
-    let d' : (z + w * 256) % 256 ≡ z = omega arith in
-    let e : n / 16777216 ≡ w = omega arith in
-    let e' : w % 256 ≡ w = mod-eq_of_lt hw in
-    cc
 
 sixteen : (b : List ℕ) → 16 ≤ length b → take 16 b ≡
     get_or b 0 0 ∷ get_or b 1 0 ∷ get_or b 2 0 ∷ get_or b 3 0 ∷ get_or b 4 0 ∷ get_or b 5 0 ∷ get_or b 6 0 ∷ get_or b 7 0
@@ -46,13 +32,6 @@ header_is k w b bytes h g =
     g.seventh g.eighth
     (sym (le32_back (get_or b 8 0) (get_or b 9 0) (get_or b 10 0) (get_or b 11 0) (bytes _) (bytes _) (bytes _) (bytes _)))
     (sym (le32_back (get_or b 12 0) (get_or b 13 0) (get_or b 14 0) (get_or b 15 0) (bytes _) (bytes _) (bytes _) (bytes _)))
-
-all_zero : (xs : List ℕ) → ((i : ℕ) → i < length xs → get_or xs i 0 ≡ 0) → xs ≡ zeros (length xs)
-all_zero [] h = refl
-all_zero (x ∷ xs) h =
-    let e : x ≡ 0 = h 0 (omega arith) in
-    let f = all_zero xs (λ i l. h (suc i) (omega arith)) in
-    cc
 
 -- a list in four parts
 four_parts : (b : List ℕ) (i j w : ℕ) → i ≤ w → b ≡ take 16 b ++ (take j (drop 16 b) ++ (take (w - (16 + j)) (drop (16 + j) b) ++ drop (16 + j + (w - (16 + j))) b))

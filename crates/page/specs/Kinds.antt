@@ -1,8 +1,9 @@
 -- The kinds of cells.
 use Rattle.std.specs.Prelude.{ℕ, ◌+◌, Bool, true, ◌&&◌, List, ◌∷◌, ◌++◌, length, take, drop, ◌==◌, nat_le, slice_index}
-use Rattle.checksum.specs.Bytes.{le32}
+use Rattle.checksum.specs.Bytes.{le32, word32}
+use Rattle.checksum.specs.Kinds.{kind_byte}
+use Rattle.checksum.specs.declared.kind.Kind.TheVariants.{Leaf, Branch}
 use Rattle.cuts.specs.Nodes.{Pair, Cell}
-use Rattle.page.specs.Words.{word32}
 
 -- what a kind fixes: its kind byte, which bytes are a cell, the key of a cell, and which numbers may stand in the
 -- place of the leftmost child
@@ -46,7 +47,7 @@ BranchItem = Cell ℕ
 
 -- a leaf has no leftmost child
 abbrev pub leaf_rules : Rules
-leaf_rules = record { kind = 1; good = leaf_good; key = leaf_key; leftmost = λ p. (p == 0) }
+leaf_rules = record { kind = kind_byte Leaf; good = leaf_good; key = leaf_key; leftmost = λ p. (p == 0) }
 
 abbrev pub branch_rules : Rules
-branch_rules = record { kind = 2; good = branch_good; key = branch_key; leftmost = λ _. true }
+branch_rules = record { kind = kind_byte Branch; good = branch_good; key = branch_key; leftmost = λ _. true }

@@ -1,9 +1,8 @@
 -- The bytes of a page of cells. A cell is given by its own bytes here; specs/Kinds.antt says which bytes those are.
 use Rattle.std.specs.Prelude.{◌≡◌, ℕ, zero, suc, ◌+◌, ◌-◌, ◌*◌, ◌^◌, ◌<◌, ◌≤◌, List, [], ◌∷◌, ◌++◌, map, length, replicate}
 use Rattle.std.specs.List.{range_with_len, between}
-use Rattle.checksum.specs.Bytes.{le16, le32}
+use Rattle.checksum.specs.Bytes.{le16, le32, word16, word32, zeros}
 use Rattle.checksum.specs.Crc.{crc_of}
-use Rattle.page.specs.Words.{word16, word32}
 
 -- the cells as they lie at the end of the page: each one just below the one before
 unfoldable pub bodies : List (List ℕ) → List ℕ
@@ -18,9 +17,6 @@ offsets top (c ∷ cs) = le16 (top - length c) ++ offsets (top - length c) cs
 -- what the cells cost: their bytes, and two for the offset of each
 abbrev pub cost : List (List ℕ) → ℕ
 cost cells = 2 * length cells + length (bodies cells)
-
-abbrev pub zeros : ℕ → List ℕ
-zeros n = replicate n 0
 
 -- bytes 0 to 15: the kind, a zero, the number of cells, the offset of the lowest cell, two zeros, the leftmost
 -- child, the checksum

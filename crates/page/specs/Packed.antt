@@ -1,6 +1,6 @@
 -- What a scan over the cells of a page finds. Only inner functions speak of it.
 use Rattle.std.specs.Prelude.{◌≡◌, ℕ, ◌+◌, ◌*◌, ◌≤◌, true, List, length, take, drop, slice_index_or}
-use Rattle.page.specs.Words.{word16}
+use Rattle.checksum.specs.Bytes.{word16}
 use Rattle.page.specs.Kinds.{Rules}
 use Rattle.page.specs.Layout.{bodies, offsets, cells_of, edge_at}
 use Rattle.page.specs.Reading.{every}

@@ -1,8 +1,7 @@
 // Numbers in the bytes of a page.
 ghost use Rattle.std.specs.Prelude.{◌≡◌, ◌+◌, ◌^◌, ◌<◌, ◌≤◌, length};
-ghost use Rattle.checksum.specs.Bytes.{le16, over};
+ghost use Rattle.checksum.specs.Bytes.{le16, over, word16};
 ghost use Rattle.page.specs.Layout.{cells_of, left_of, edge_at};
-ghost use Rattle.page.specs.Words.{word16};
 
 use device::{PAGE_SIZE, Page};
 
@@ -10,7 +9,7 @@ pub(crate) fn read16(page: &Page, at: usize) -> usize
     requires { at + 2 ≤ 512 }
     ensures { result ≡ word16 page.now at }
 {
-    u16::from_le_bytes([page[at], page[at + 1]]) as usize
+    u16::from_le_bytes(page[at..at + 2].try_into().unwrap()) as usize
 }
 
 pub(crate) fn write16(page: &mut Page, at: usize, value: usize)
@@ -37,7 +36,7 @@ pub(crate) fn count_of(page: &Page) -> usize
 pub(crate) fn leftmost_of(page: &Page) -> u32
     ensures { result ≡ left_of page.now }
 {
-    u32::from_le_bytes([page[8], page[9], page[10], page[11]])
+    u32::from_le_bytes(page[8..12].try_into().unwrap())
 }
 
 // Where cell i ends, which is where the cell before it begins.

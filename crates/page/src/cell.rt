@@ -1,12 +1,19 @@
-ghost use Rattle.std.specs.Prelude.{◌≡◌, ℕ, ◌+◌, ◌≤◌, List, true, length};
+ghost use Rattle.std.specs.Prelude.{◌≡◌, ℕ, ◌+◌, ◌≤◌, List, true, length, refl};
+ghost use Rattle.checksum.specs.Kinds.{kind_byte};
+ghost use Rattle.checksum.specs.declared.kind.Kind.{Kind};
+ghost use Rattle.checksum.specs.declared.kind.Kind.TheVariants.{Leaf, Branch};
 ghost use Rattle.cuts.specs.Nodes.{Pair, pair_cost, cell_cost};
 ghost use Rattle.page.specs.Goods.{leaf_costs, leaf_small, branch_costs, branch_small};
 ghost use Rattle.page.specs.Kinds.{Rules, BranchItem, leaf_rules, branch_rules, pair_of, cell_of};
 
+use checksum::Kind;
+
 // A kind of cells. Cells are the bytes that they have in a page; `rules` says what a kind means.
 pub trait Cell {
-    // the first byte of a page of such cells
-    const KIND: u8;
+    // what a page of such cells is
+    const KIND: Kind;
+
+    ghost KIND: { Kind };
 
     // the bytes of a cell before its key
     const HEAD: usize;
@@ -20,9 +27,6 @@ pub trait Cell {
 
     ghost item_cost: { Item → ℕ };
 
-    fn kind_byte() -> u8
-        ensures { result ≡ rules.kind };
-
     // Whether the bytes are a cell, lengths included.
     fn is_good(body: &[u8]) -> bool
         ensures { result ≡ rules.good body.now };
@@ -35,9 +39,19 @@ pub trait Cell {
     fn allows_leftmost(child: u32) -> bool
         ensures { result ≡ rules.leftmost child };
 
+    // Its byte is the kind's.
+    ghost kinds: { rules.kind ≡ kind_byte KIND };
+
     ghost costs: { (b : List ℕ) → rules.good b ≡ true → item_cost (item b) ≡ 2 + length b };
 
     ghost small: { (b : List ℕ) → rules.good b ≡ true → 2 + length b ≤ 196 };
+}
+
+// The first byte of a page of such cells.
+pub(crate) fn kind_byte<C: Cell>() -> u8
+    ensures { result ≡ C.rules.kind }
+{
+    C::KIND.into()
 }
 
 pub struct LeafCell;
@@ -46,7 +60,9 @@ pub struct BranchCell;
 
 // key length, value length, key, value
 impl Cell for LeafCell {
-    const KIND: u8 = 1;
+    const KIND: Kind = Kind::Leaf;
+
+    ghost KIND = { Leaf };
 
     const HEAD: usize = 2;
 
@@ -58,13 +74,11 @@ impl Cell for LeafCell {
 
     ghost item_cost = { pair_cost };
 
+    ghost kinds = { refl };
+
     ghost costs = { leaf_costs };
 
     ghost small = { leaf_small };
-
-    fn kind_byte() -> u8 {
-        Self::KIND
-    }
 
     fn is_good(body: &[u8]) -> bool {
         body.len() >= Self::HEAD
@@ -85,7 +99,9 @@ impl Cell for LeafCell {
 
 // separator length, zero, child, separator
 impl Cell for BranchCell {
-    const KIND: u8 = 2;
+    const KIND: Kind = Kind::Branch;
+
+    ghost KIND = { Branch };
 
     const HEAD: usize = 6;
 
@@ -97,13 +113,11 @@ impl Cell for BranchCell {
 
     ghost item_cost = { cell_cost };
 
+    ghost kinds = { refl };
+
     ghost costs = { branch_costs };
 
     ghost small = { branch_small };
-
-    fn kind_byte() -> u8 {
-        Self::KIND
-    }
 
     fn is_good(body: &[u8]) -> bool {
         body.len() >= Self::HEAD

@@ -1,14 +1,10 @@
 // The laws of pages. These functions do nothing: each carries the law in its contract.
 ghost use Rattle.page.specs.Laws.{PagesReadBack, NothingElseIsRead};
 
-pub fn pages_read_back() -> u8
+pub fn pages_read_back()
     ensures { PagesReadBack }
-{
-    0
-}
+{}
 
-pub fn nothing_else_is_read() -> u8
+pub fn nothing_else_is_read()
     ensures { NothingElseIsRead }
-{
-    0
-}
+{}

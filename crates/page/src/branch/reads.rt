@@ -3,7 +3,7 @@ ghost use Rattle.std.specs.Option.{option_map};
 ghost use Rattle.tree.specs.Search.{picked};
 ghost use Rattle.page.specs.Branches.{child_of, separator_of};
 ghost use Rattle.page.specs.Kinds.{branch_good};
-ghost use Rattle.page.specs.Words.{word32};
+ghost use Rattle.checksum.specs.Bytes.{word32};
 ghost use Rattle.page.specs.Views.{branch_node};
 
 use crate::cell::BranchCell;
@@ -14,7 +14,7 @@ pub(crate) fn child_of(cell: &[u8]) -> u32
     requires { branch_good cell.now ≡ true }
     ensures { result ≡ word32 cell.now 2 }
 {
-    u32::from_le_bytes([cell[2], cell[3], cell[4], cell[5]])
+    u32::from_le_bytes(cell[2..6].try_into().unwrap())
 }
 
 impl CellPage<BranchCell> {

@@ -5,10 +5,10 @@ ghost use Rattle.page.specs.Kinds.{Rules};
 ghost use Rattle.page.specs.Layout.{cells_of, edge_at};
 ghost use Rattle.page.specs.Packed.{Packed, Headed};
 ghost use Rattle.page.specs.Reading.{layout, shape_fault};
-ghost use Rattle.page.specs.Words.{word16};
+ghost use Rattle.checksum.specs.Bytes.{word16};
 
 use crate::bytes::{count_of, edge, leftmost_of, read16};
-use crate::cell::Cell;
+use crate::cell::{Cell, kind_byte};
 use crate::cells::Cells;
 use crate::fault::Cause;
 use device::Page;
@@ -53,7 +53,7 @@ fn is_packed<C: Cell>(page: &Page, n: usize) -> bool
 fn has_header<C: Cell>(page: &Page, lowest: usize) -> bool
     ensures { Decides result (Headed C.rules.kind page.now lowest) }
 {
-    page[0] == C::kind_byte()
+    page[0] == kind_byte::<C>()
         && page[1] == 0
         && read16(page, 4) == lowest
         && page[6] == 0
@@ -87,7 +87,7 @@ impl<'a, C: Cell> Cells<'a, C> {
         ensures fault { result_err result ≡ shape_fault C.rules page.now }
         ensures same { IfOk result (λ cells. cells.page.now ≡ page.now) }
     {
-        if page[0] != C::kind_byte() {
+        if page[0] != kind_byte::<C>() {
             return Err(Cause::Kind);
         }
         if !is_laid_out::<C>(page) {

@@ -3,7 +3,7 @@ ghost use Rattle.page.specs.Layout.{bodies, cost, cells_of, left_of};
 ghost use Rattle.page.specs.Reading.{every, rising};
 
 use crate::bytes::{count_of, put, read16, write16};
-use crate::cell::Cell;
+use crate::cell::{Cell, kind_byte};
 use crate::cell_page::CellPage;
 use crate::draft::Draft;
 use checksum::seal;
@@ -17,7 +17,7 @@ impl<C: Cell> Draft<C> {
         ensures cells { cells_of result.bytes ≡ [] }
     {
         let mut bytes = [0; PAGE_SIZE];
-        bytes[0] = C::kind_byte();
+        bytes[0] = kind_byte::<C>();
         write16(&mut bytes, 4, PAGE_SIZE);
         put(&mut bytes, 8, &leftmost.to_le_bytes());
         Draft {

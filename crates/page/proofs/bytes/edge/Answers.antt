@@ -1,5 +1,5 @@
 use Rattle.std.proofs.Common.{◌≡◌, suc, ◌+◌, ◌-◌, ◌*◌, sym, ap, ◌∙◌, arith}
-use Rattle.page.specs.Words.{word16}
+use Rattle.checksum.specs.Bytes.{word16}
 use Rattle.page.specs.Layout.{edge_at}
 use Rattle.page.proofs.bytes.edge.Goals as goal
 

@@ -1,7 +1,6 @@
 use Rattle.std.proofs.Common.{rules}
-use Rattle.page.specs.Words.{word32}
+use Rattle.checksum.proofs.Words.{word32_read}
 use Rattle.page.proofs.branch.reads.child_of.Goals as goal
 
 pub returns : goal.returns
-unfolding word32
-returns c = search rules
+returns c = word32_read c.args.cell.now c.unwrap.result 2 c.from_le_bytes.result (search rules) c.from_le_bytes.ensures

@@ -4,7 +4,7 @@ use Rattle.tree.specs.Trees.{branch}
 use Rattle.page.specs.Kinds.{branch_good, branch_key, cell_of}
 use Rattle.page.specs.Layout.{cells_of}
 use Rattle.page.specs.Lists.{cells_in}
-use Rattle.page.specs.Words.{word32}
+use Rattle.checksum.specs.Bytes.{word32}
 use Rattle.page.proofs.Branches.{fits_one, fits_two}
 use Rattle.page.proofs.Parts.{map_between}
 use Rattle.page.proofs.Splices.{list_good}

@@ -2,7 +2,7 @@ use Rattle.std.proofs.Common.{◌-◌, [], length, get_or, ap, ◌∙◌, arith}
 use Rattle.std.proofs.lemmas.List.{length-map}
 use Rattle.page.specs.Kinds.{branch_good, cell_of}
 use Rattle.page.specs.Layout.{cells_of, left_of}
-use Rattle.page.specs.Words.{word32}
+use Rattle.checksum.specs.Bytes.{word32}
 use Rattle.page.proofs.Children.{child_later}
 use Rattle.page.proofs.Splices.{length_same}
 use Rattle.page.proofs.Tested.{every_at}
