@@ -1,10 +1,10 @@
 -- The cells of a leaf as pairs.
-use Rattle.std.proofs.Common.{◌≡◌, ℕ, suc, ◌+◌, ◌-◌, ◌<◌, ◌≤◌, true, cond, ltb, List, [], ◌∷◌, ◌++◌, map, length, get_or, take, drop, sym, refl, ap, ◌∙◌, ⊎_elim, arith}
+use Rattle.std.proofs.Common.{◌≡◌, ℕ, ◌+◌, ◌-◌, ◌<◌, ◌≤◌, true, List, [], ◌∷◌, ◌++◌, map, length, get_or, take, drop, sym, refl, ap, ◌∙◌, ⊎_elim, arith}
 use Rattle.std.specs.List.{AllByRecursion}
 use Rattle.std.proofs.lemmas.List.{length-take-le, length-drop, drop_more, map_more}
-use Rattle.std.proofs.lemmas.Bool.{and_parts, leb-true, eqb-true, cases_lt}
+use Rattle.std.proofs.lemmas.Bool.{and_parts, cases_lt}
 use Rattle.cuts.specs.Cuts.{total, fair}
-use Rattle.cuts.specs.Nodes.{Pair, pair_cost}
+use Rattle.cuts.specs.Nodes.{Pair}
 use Rattle.cuts.proofs.Balance.{leaf_parts}
 use Rattle.cuts.specs.Laws.{LeafPartsFit}
 use Rattle.tree.specs.Edits.{first_key, last_key}

@@ -1,7 +1,6 @@
 -- Lists of cells in parts: the first of one page, perhaps a loose one, the last of a page.
 use Rattle.std.proofs.Common.{◌≡◌, ℕ, ◌+◌, ◌-◌, ◌<◌, ◌≤◌, true, List, [], ◌∷◌, ◌++◌, length, get_or, take, drop, Option, Some, None, sym, ap, ◌∙◌, arith, Bor}
 use Rattle.std.specs.List.{between}
-use Rattle.std.specs.Option.{option_map, option_to_list}
 use Rattle.std.proofs.lemmas.List.{length-append, length-take-le, length-drop, get_or_append_left, get_or-append_right, get_or-take, get_or-drop}
 use Rattle.page.specs.Layout.{cost, cells_of}
 use Rattle.page.specs.Lists.{cells_in}

@@ -1,10 +1,10 @@
 -- What the test of a page's layout goes by.
-use Rattle.std.proofs.Common.{◌≡◌, ℕ, zero, suc, ◌+◌, ◌-◌, ◌*◌, ◌/◌, ◌%◌, ◌^◌, ◌<◌, ◌≤◌, Bool, true, false, List, [], ◌∷◌, ◌++◌, length, get_or, take, drop, sym, refl, ap, ◌∙◌, ⊎_elim, mod-eq_of_lt, add-one, arith}
+use Rattle.std.proofs.Common.{◌≡◌, ℕ, zero, suc, ◌+◌, ◌-◌, ◌*◌, ◌<◌, ◌≤◌, Bool, true, false, List, [], ◌∷◌, ◌++◌, length, get_or, take, drop, sym, refl, ap, ◌∙◌, ⊎_elim, add-one, arith}
 use Rattle.std.proofs.lemmas.List.FromFn.{get_or-map-range_with_len}
 use Rattle.std.proofs.lemmas.Slice.Eq.{bytes_eq-Decides}
 use Rattle.std.proofs.lemmas.List.{take_more, take-append-drop, drop-drop, length-drop, length-take-le, get_or-drop, drop_all, append_assoc}
 use Rattle.std.proofs.lemmas.Bool.{and_parts, and_from, cases_Bool, leb-true, le-leb, both_ways}
-use Rattle.checksum.specs.Bytes.{le16, word16, word32}
+use Rattle.checksum.specs.Bytes.{le16, word16}
 use Rattle.checksum.proofs.Words.{Bytes, word32_small, le16_back}
 use Rattle.page.specs.Kinds.{Rules}
 use Rattle.page.specs.Layout.{Laid, bodies, offsets, cells_of, cell_in, edge_at, left_of}

@@ -1,8 +1,8 @@
 -- A page from its parts: the header, the offsets, the zeros and the cells.
-use Rattle.std.proofs.Common.{◌≡◌, ℕ, suc, ◌+◌, ◌-◌, ◌*◌, ◌/◌, ◌%◌, ◌<◌, ◌≤◌, List, [], ◌∷◌, ◌++◌, length, get_or, take, drop, sym, refl, ap, ◌∙◌, mod-eq_of_lt, arith}
+use Rattle.std.proofs.Common.{◌≡◌, ℕ, ◌+◌, ◌-◌, ◌*◌, ◌<◌, ◌≤◌, List, [], ◌∷◌, ◌++◌, length, get_or, take, drop, sym, ap, ◌∙◌, arith}
 use Rattle.std.proofs.lemmas.List.FromFn.{fill_by_all}
 use Rattle.std.proofs.lemmas.List.{take_all, take-append-drop, drop-drop, length-drop, length-append, length-take-le, get_or-take, get_or-drop, get_or_append_left, get_or-append_right, get_or-replicate, append_assoc}
-use Rattle.checksum.specs.Bytes.{le16, le32, word16, word32, zeros}
+use Rattle.checksum.specs.Bytes.{le16, word16, word32, zeros}
 use Rattle.checksum.proofs.Words.{le32_back, all_zero, Bytes, word32_small, le16_back}
 use Rattle.page.specs.Kinds.{Rules}
 use Rattle.page.specs.Layout.{Laid, bodies, offsets, cost, header, laid_out, cells_of, edge_at, left_of, sum_of}

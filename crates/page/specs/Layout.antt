@@ -1,5 +1,5 @@
 -- The bytes of a page of cells. A cell is given by its own bytes here; specs/Kinds.antt says which bytes those are.
-use Rattle.std.specs.Prelude.{◌≡◌, ℕ, zero, suc, ◌+◌, ◌-◌, ◌*◌, ◌^◌, ◌<◌, ◌≤◌, List, [], ◌∷◌, ◌++◌, map, length, replicate}
+use Rattle.std.specs.Prelude.{◌≡◌, ℕ, zero, suc, ◌+◌, ◌-◌, ◌*◌, ◌^◌, ◌<◌, ◌≤◌, List, [], ◌∷◌, ◌++◌, map, length}
 use Rattle.std.specs.List.{range_with_len, between}
 use Rattle.checksum.specs.Bytes.{le16, le32, word16, word32, zeros}
 use Rattle.checksum.specs.Crc.{crc_of}

@@ -2,9 +2,7 @@ use crate::cell::BranchCell;
 use crate::cell_page::CellPage;
 
 mod calls;
-
 mod edits;
-
 mod reads;
 
 // A branch.

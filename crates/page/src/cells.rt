@@ -8,7 +8,6 @@ use std::alloc::AllocError;
 use std::marker::PhantomData;
 
 mod reads;
-
 pub(crate) mod tests;
 
 // The cells of a page that is laid out as that of its cells, with whatever checksum.

@@ -2,27 +2,16 @@
 #![tactic(auto)]
 
 mod branch;
-
 mod bytes;
-
 mod cell;
-
 mod cell_page;
-
 mod cells;
-
 mod draft;
-
 mod fault;
-
 mod grown;
-
 pub mod laws;
-
 mod leaf;
-
 mod short;
-
 mod splice;
 
 pub use branch::BranchPage;

@@ -4,7 +4,6 @@ use crate::cell::Cell;
 use crate::cells::Cells;
 
 mod builds;
-
 mod reads;
 
 // What a page has for cells and their offsets.

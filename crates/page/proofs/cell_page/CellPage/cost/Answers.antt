@@ -1,4 +1,4 @@
-use Rattle.std.proofs.Common.{◌≡◌, true, sym, ap, ◌∙◌, arith}
+use Rattle.std.proofs.Common.{◌≡◌, true, sym, ap, ◌∙◌}
 use Rattle.page.specs.Layout.{cells_of, cost}
 use Rattle.page.specs.Reading.{every}
 use Rattle.page.proofs.Children.{page_parts}

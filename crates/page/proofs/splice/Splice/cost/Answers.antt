@@ -1,4 +1,4 @@
-use Rattle.std.proofs.Common.{[], ◌∷◌, ap, arith}
+use Rattle.std.proofs.Common.{ap, arith}
 use Rattle.page.specs.Layout.{cost}
 use Rattle.page.proofs.Pages.{cost_none, cost_one}
 use Rattle.page.proofs.Splices.{one_loose, no_loose, cost_spliced}

@@ -1,10 +1,9 @@
-use Rattle.std.proofs.Common.{◌∙◌, ◌≡◌, true, map, sym, ap, arith, rules}
+use Rattle.std.proofs.Common.{◌∙◌, map, sym, ap, arith}
 use Rattle.std.proofs.lemmas.List.{take_all}
 use Rattle.cuts.specs.Cuts.{total}
 use Rattle.cuts.specs.Nodes.{cell_cost}
-use Rattle.page.specs.Kinds.{branch_rules, cell_of}
+use Rattle.page.specs.Kinds.{cell_of}
 use Rattle.page.specs.Layout.{cells_of, left_of}
-use Rattle.page.specs.Reading.{sound}
 use Rattle.page.proofs.BranchSteps.{cells_cost, light_few, joins}
 use Rattle.page.proofs.Children.{branch_bytes_lem}
 use Rattle.page.proofs.branch.calls.CellPage+BranchCell.join.Goals as goal

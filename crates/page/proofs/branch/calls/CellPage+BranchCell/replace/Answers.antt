@@ -1,6 +1,4 @@
-use Rattle.std.proofs.Common.{◌≡◌, ◌+◌, true, arith, rules}
-use Rattle.page.specs.Kinds.{branch_rules}
-use Rattle.page.specs.Reading.{sound}
+use Rattle.std.proofs.Common.{◌+◌, arith}
 use Rattle.page.proofs.BranchSteps.{base_length, cells_few, replaces}
 use Rattle.page.proofs.Children.{branch_bytes_lem}
 use Rattle.page.proofs.branch.calls.CellPage+BranchCell.replace.Goals as goal

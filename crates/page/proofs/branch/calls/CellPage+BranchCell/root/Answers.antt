@@ -1,10 +1,9 @@
-use Rattle.std.proofs.Common.{◌≡◌, ◌+◌, ◌^◌, ◌<◌, true, List, [], ◌∷◌, ◌++◌, refl, ap, ◌∙◌, arith}
+use Rattle.std.proofs.Common.{◌≡◌, ◌^◌, ◌<◌, true, [], ◌∷◌, ◌++◌, refl, ap, ◌∙◌, arith}
 use Rattle.std.proofs.lemmas.Bool.{and_from}
 use Rattle.cuts.specs.Keys.{KeyFits}
 use Rattle.tree.specs.Trees.{branch, cell}
-use Rattle.page.specs.Goods.{branch_parts_of}
 use Rattle.page.specs.Kinds.{branch_body, branch_good, branch_key, cell_of}
-use Rattle.page.specs.Layout.{cost, cells_of}
+use Rattle.page.specs.Layout.{cells_of}
 use Rattle.page.specs.Reading.{every, rising}
 use Rattle.page.proofs.BranchLists.{body_good, cell_body}
 use Rattle.page.proofs.BranchSteps.{node_is}
@@ -44,7 +43,8 @@ returns c =
     let t = goal.at.returns c in
     let s = c.args.separator.now in
     let x = c.args.right in
-    let l : x < 2 ^ 32 = omega arith in
-    (fits t.After-as_slice,
-    node_is c.finish.result c.args.left _ (c.finish.ensures.left ∙ (c.push.ensures.left ∙ c.new-draft.ensures.left)) (c.finish.ensures.cells ∙ one t.After-push)
-    ∙ ap (λ d. branch c.args.left (d ∷ [])) (ap cell_of (body t.After-as_slice) ∙ cell_body s x l))
+    let l : x < 2 ^ 32 = omega arith in (
+      fits t.After-as_slice,
+      node_is c.finish.result c.args.left _ (c.finish.ensures.left ∙ (c.push.ensures.left ∙ c.new-draft.ensures.left)) (c.finish.ensures.cells ∙ one t.After-push)
+          ∙ ap (λ d. branch c.args.left (d ∷ [])) (ap cell_of (body t.After-as_slice) ∙ cell_body s x l),
+    )

@@ -1,7 +1,6 @@
-use Rattle.std.proofs.Common.{◌≡◌, ◌^◌, ◌<◌, true, ◌∷◌, ◌++◌, map, take, drop, sym, ap, ◌∙◌, arith, rules}
-use Rattle.page.specs.Kinds.{branch_rules, cell_of, branch_body, branch_good}
+use Rattle.std.proofs.Common.{◌≡◌, ◌^◌, ◌<◌, ◌∷◌, ◌++◌, map, take, drop, sym, ap, ◌∙◌, arith}
+use Rattle.page.specs.Kinds.{cell_of, branch_body, branch_good}
 use Rattle.page.specs.Layout.{cells_of, left_of}
-use Rattle.page.specs.Reading.{sound}
 use Rattle.page.proofs.Children.{branch_bytes_lem}
 use Rattle.std.proofs.lemmas.Bool.{false≢true}
 use Rattle.cuts.specs.Keys.{KeyFits}

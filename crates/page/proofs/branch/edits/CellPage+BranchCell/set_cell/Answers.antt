@@ -8,7 +8,6 @@ use Rattle.page.proofs.BranchLists.{set_cost, set_rises, with_cells}
 use Rattle.page.proofs.BranchSteps.{node_is}
 use Rattle.page.proofs.Children.{separator_at_lem}
 use Rattle.page.proofs.Splices.{parts_same, length_same}
-use Rattle.page.proofs.branch.edits.CellPage+BranchCell.set_cell.Given as given
 use Rattle.page.proofs.branch.edits.CellPage+BranchCell.set_cell.Goals as goal
 use Rattle.page.proofs.branch.edits.CellPage+BranchCell.set_cell.Goals.{After-cells-cells}
 

@@ -1,6 +1,4 @@
-use Rattle.std.proofs.Common.{[], map, ap, ◌∙◌}
-use Rattle.tree.specs.Trees.{branch}
-use Rattle.page.specs.Kinds.{cell_of}
+use Rattle.std.proofs.Common.{ap, ◌∙◌}
 use Rattle.page.specs.Layout.{cells_of}
 use Rattle.page.proofs.BranchSteps.{node_is}
 use Rattle.page.proofs.branch.edits.CellPage+BranchCell.with_first.Goals as goal

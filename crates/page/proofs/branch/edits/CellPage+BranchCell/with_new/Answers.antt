@@ -3,7 +3,6 @@ use Rattle.std.proofs.lemmas.Bool.{and_from}
 use Rattle.std.proofs.lemmas.List.{length-map}
 use Rattle.tree.specs.Trees.{branch}
 use Rattle.page.specs.Branches.{ascending}
-use Rattle.page.specs.Goods.{branch_parts_of}
 use Rattle.page.specs.Growths.{fitted_branch}
 use Rattle.page.specs.Kinds.{branch_key, branch_rules, cell_of}
 use Rattle.page.specs.Layout.{cost, cells_of, left_of}

@@ -1,5 +1,4 @@
 use Rattle.std.proofs.Common.{◌+◌, map, ap, ◌∙◌, arith}
-use Rattle.std.specs.List.{between}
 use Rattle.tree.specs.Trees.{branch}
 use Rattle.page.specs.Kinds.{branch_good, branch_key, cell_of}
 use Rattle.page.specs.Layout.{cells_of}

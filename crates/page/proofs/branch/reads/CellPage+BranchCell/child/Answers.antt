@@ -1,4 +1,4 @@
-use Rattle.std.proofs.Common.{◌-◌, [], length, get_or, ap, ◌∙◌, arith}
+use Rattle.std.proofs.Common.{◌-◌, [], get_or, ap, ◌∙◌, arith}
 use Rattle.std.proofs.lemmas.List.{length-map}
 use Rattle.page.specs.Kinds.{branch_good, cell_of}
 use Rattle.page.specs.Layout.{cells_of, left_of}

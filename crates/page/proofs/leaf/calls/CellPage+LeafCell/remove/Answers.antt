@@ -1,6 +1,4 @@
-use Rattle.std.proofs.Common.{sym, ◌∙◌, subst}
-use Rattle.tree.specs.Maps.{Rising}
-use Rattle.tree.proofs.Insertion.{delete_rising}
+use Rattle.std.proofs.Common.{◌∙◌}
 use Rattle.page.specs.Layout.{cells_of}
 use Rattle.page.specs.Kinds.{leaf_rules}
 use Rattle.page.specs.Views.{pairs_in}

@@ -1,12 +1,10 @@
-use Rattle.std.proofs.Common.{[], ◌++◌, map, ap, ◌∙◌, arith}
+use Rattle.std.proofs.Common.{◌++◌, map, ap, ◌∙◌, arith}
 use Rattle.std.proofs.lemmas.List.{map-append}
 use Rattle.page.specs.Growths.{fitted}
-use Rattle.page.specs.Kinds.{leaf_key, pair_of}
+use Rattle.page.specs.Kinds.{pair_of}
 use Rattle.page.specs.Layout.{cost, cells_of}
-use Rattle.page.specs.Reading.{rising}
 use Rattle.page.proofs.LeafJoins.{all_first}
 use Rattle.page.proofs.Pages.{cost_append}
-use Rattle.page.proofs.Splices.{parts_same}
 use Rattle.page.proofs.leaf.edits.CellPage+LeafCell.with_all.Goals as goal
 
 pub leaves-requires : goal.leaves-requires

@@ -1,7 +1,7 @@
 use Rattle.std.proofs.Common.{[], ◌+◌, ◌++◌, map, take, drop, refl, ap, ◌∙◌, add-one, arith}
 use Rattle.std.proofs.lemmas.List.{length-map}
 use Rattle.page.specs.Kinds.{leaf_key, pair_of}
-use Rattle.page.specs.Layout.{cost, cells_of}
+use Rattle.page.specs.Layout.{cells_of}
 use Rattle.page.specs.Reading.{rising}
 use Rattle.page.proofs.BranchOrders.{rising_without}
 use Rattle.page.proofs.OnePage.{cost_kept}
