@@ -2,3 +2,4 @@ pub mod Turn
 pub mod Parts
 pub mod Over
 pub mod Words
+pub mod Seals

@@ -1,17 +1,18 @@
 -- What reading gives, by the parts of the meta test.
-use Rattle.std.proofs.Common.{◌≡◌, ℕ, ◌%◌, ◌^◌, ◌<◌, ◌≤◌, true, false, cond, List, length, get_or, Some, None, sym, ap, ◌∙◌, ⊎_elim, arith}
+use Rattle.std.proofs.Common.{◌≡◌, ℕ, Bool, Decides, ◌%◌, ◌^◌, ◌<◌, ◌≤◌, true, false, cond, List, length, get_or, Some, None, sym, refl, ap, ◌∙◌, ⊎_elim, arith}
+use Rattle.std.specs.Bool.{then_some}
 use Rattle.std.proofs.lemmas.Slice.Eq.{bytes_eq-Decides}
-use Rattle.std.proofs.lemmas.Bool.{and_parts, and_from, cases_Bool, both_ways, eqb-true, leb-true, ltb-true, eq-eqb, le-leb, lt-ltb, le-ltb}
+use Rattle.std.proofs.lemmas.Bool.{and_parts, and_from, cases_Bool, eqb-true, leb-true, ltb-true, eq-eqb, le-leb, lt-ltb, le-ltb, false≢true}
 use Rattle.checksum.specs.Crc.{crc_of}
 use Rattle.checksum.specs.Sealed.{is_sealed}
-use Rattle.meta.specs.Words.{zeros, word32, word64}
+use Rattle.checksum.specs.Bytes.{zeros, word32, word64}
 use Rattle.meta.specs.Layout.{laid_out, meta_page, meta_in}
 use Rattle.meta.specs.Test.{is_good, passes, read_meta, newer}
 use Rattle.meta.specs.Laws.{Fits, PagesReadBack, NothingElseIsRead, ZerosAreNotRead, TheNewerCounts, SixAndSevenGivesSeven, SevenIsNotForPageZero}
 use Rattle.meta.specs.Shape.{Shaped, Good}
 use Rattle.meta.specs.declared.Meta.{Meta}
-use Rattle.meta.proofs.Numbers.{word32_small, word64_small}
-use Rattle.meta.proofs.Pages.{page_laid, page_sealed, page_shaped, page_length, page_says}
+use Rattle.checksum.proofs.Words.{Bytes, word32_small, word64_small}
+use Rattle.meta.proofs.Pages.{page_laid, page_sealed, page_shaped, page_length, page_says, is_page}
 
 pub good_from : (at pages : ℕ) (m : Meta) → is_good at pages m ≡ true → Good at pages m
 unfolding is_good
@@ -62,11 +63,15 @@ module _ (at pages : ℕ) (b : List ℕ) where
   pub none_shape : (Shaped b → ⊥) → read_meta at pages b ≡ None
   none_shape h = none_unless (λ t. h (rw (passing_page t) (page_shaped (meta_in b))))
 
-  pub none_seal : is_sealed b ≡ false → read_meta at pages b ≡ None
-  none_seal h = none_unless (λ t. both_ways (is_sealed b) h (ap is_sealed (passing_page t) ∙ page_sealed (meta_in b)))
-
-  pub none_good : (Good at pages (meta_in b) → ⊥) → read_meta at pages b ≡ None
-  none_good h = none_unless (λ t. h (passing_good t))
+-- what the code reads: what the bytes say, where it finds them a sealed page of the right shape with good numbers
+pub read_judged : (at pages : ℕ) (b : List ℕ) → Bytes b → length b ≡ 512 → (p : Bool)
+    → Decides p (Shaped b × (is_sealed b ≡ true) × Good at pages (meta_in b)) → then_some p (meta_in b) ≡ read_meta at pages b
+read_judged at pages b bytes len true d =
+    let h = d.0 refl in
+    sym (read_some at pages b (is_page b bytes len h.0 h.1) h.2)
+read_judged at pages b bytes len false d =
+    sym (none_unless at pages b (λ t.
+    false≢true (d.1 (rw (passing_page at pages b t) (page_shaped (meta_in b)), ap is_sealed (passing_page at pages b t) ∙ page_sealed (meta_in b), passing_good at pages b t))))
 
 -- what is read is good, and read from its page
 module _ (at pages : ℕ) (b : List ℕ) (m : Meta) (e : read_meta at pages b ≡ Some m) where

@@ -1,47 +1,40 @@
 -- A meta page from its parts, with its checksum, and back.
-use Rattle.std.proofs.Common.{◌≡◌, ℕ, suc, ◌+◌, ◌-◌, ◌*◌, ◌<◌, ◌≤◌, true, List, [], ◌∷◌, ◌++◌, length, get_or, take, drop, set, sym, refl, ap, ◌∙◌, arith}
+use Rattle.std.proofs.Common.{◌≡◌, ℕ, ◌+◌, ◌-◌, ◌*◌, ◌≤◌, true, List, [], ◌∷◌, ◌++◌, length, get_or, take, drop, set, sym, refl, ap, ◌∙◌, arith}
 use Rattle.std.proofs.lemmas.List.FromFn.{fill_by_all}
-use Rattle.std.proofs.lemmas.Slice.Eq.{bytes_eq-Decides}
-use Rattle.std.proofs.lemmas.List.{take-append-drop, drop-drop, length-drop, length-take-le, get_or-take, get_or-drop, get_or-append_right, get_or-replicate}
-use Rattle.checksum.specs.Bytes.{le32, over}
+use Rattle.std.proofs.lemmas.List.{take-append-drop, length-drop, length-take-le, get_or-take, get_or-drop, get_or-append_right, get_or-replicate}
+use borrow.Rule.Slice.PartMut.{put_mid}
+use Rattle.checksum.specs.Kinds.{kind_byte}
+use Rattle.checksum.specs.declared.kind.Kind.TheVariants.{Meta as KindMeta}
 use Rattle.checksum.specs.Crc.{crc_of}
-use Rattle.checksum.specs.Sealed.{blanked, checksum_of, sealed, is_sealed}
-use Rattle.meta.specs.Words.{le64, zeros, word32, word64}
+use Rattle.checksum.specs.Sealed.{sealed, is_sealed}
+use Rattle.checksum.specs.Bytes.{le32, le64, zeros, word32, word64}
 use Rattle.meta.specs.Layout.{laid_out, meta_page, meta_in}
 use Rattle.meta.specs.Laws.{Fits}
 use Rattle.meta.specs.Shape.{Shaped}
 use Rattle.meta.specs.declared.Meta.{Meta}
-use Rattle.meta.proofs.Numbers.{Bytes, four_bytes, eight_bytes, le32_back, le64_halves, word32_small}
+use Rattle.checksum.proofs.Seals.{sealed_with_sum, with_sum_sealed, sealed_back}
+use Rattle.checksum.proofs.Words.{Bytes, four_bytes, eight_bytes, le32_back, le64_back, all_zero}
 
 module _ (m : Meta) where
-  -- whatever checksum stands there, it is taken as zero
-  blanked_laid : (q : ℕ) → blanked (laid_out q m) ≡ laid_out 0 m
-  unfolding laid_out
-  blanked_laid q = refl
+  -- what stands before the checksum, and after it
+  abbrev before : List ℕ
+  before = kind_byte KindMeta ∷ 1 ∷ 0 ∷ 0 ∷ (le32 m.pages ++ le32 m.root)
 
-  checksum_laid : (q : ℕ) → checksum_of (laid_out q m) ≡ crc_of (laid_out 0 m)
-  unfolding checksum_of
-  checksum_laid q = ap crc_of (blanked_laid q)
-
-  over_laid : (q c : ℕ) → over 12 (le32 c) (laid_out q m) ≡ laid_out c m
-  unfolding laid_out over
-  over_laid q c = refl
+  abbrev behind : List ℕ
+  behind = le64 m.commit ++ (le32 m.pairs ++ m.levels ∷ zeros 483)
 
   sealed_laid : (q : ℕ) → sealed (laid_out q m) ≡ laid_out (crc_of (laid_out 0 m)) m
-  unfolding sealed
-  sealed_laid q = ap (λ c. over 12 (le32 c) (laid_out q m)) (checksum_laid q) ∙ over_laid q (crc_of (laid_out 0 m))
+  unfolding laid_out
+  sealed_laid q = sealed_with_sum before behind refl q
 
   -- the page of a meta
   pub page_laid : meta_page m ≡ laid_out (crc_of (laid_out 0 m)) m
   unfolding meta_page
   page_laid = sealed_laid 0
 
-  laid_is_sealed : is_sealed (laid_out (crc_of (laid_out 0 m)) m) ≡ true
-  unfolding is_sealed laid_out
-  laid_is_sealed = (bytes_eq-Decides _ _).1 (ap le32 (sym (checksum_laid (crc_of (laid_out 0 m)))))
-
   pub page_sealed : is_sealed (meta_page m) ≡ true
-  page_sealed = ap is_sealed page_laid ∙ laid_is_sealed
+  unfolding laid_out
+  page_sealed = ap is_sealed page_laid ∙ with_sum_sealed before behind refl
 
   laid_shaped : (q : ℕ) → Shaped (laid_out q m)
   unfolding laid_out
@@ -62,28 +55,14 @@ module _ (m : Meta) where
   unfolding laid_out
   page_length = ap length page_laid
 
-  written : sealed (set (over 24 (le32 m.pairs) (over 16 (le64 m.commit) (over 8 (le32 m.root) (over 4 (le32 m.pages) (set (set (zeros 512) 0 3) 1 1))))) 28 m.levels) ≡ meta_page m
-  unfolding meta_page laid_out over
-  written = ap sealed refl
+  -- what encoding writes
+  abbrev written : ℕ → List ℕ → List ℕ → List ℕ → List ℕ → List ℕ
+  written k n r c p = set (put_mid 24 4 (put_mid 16 8 (put_mid 8 4 (put_mid 4 4 (set (set (zeros 512) 0 k) 1 1) n) r) c) p) 28 m.levels
 
-  -- what encoding writes, step by step
-  pub encoded : {n r c p d e f g h : List ℕ} → n ≡ le32 m.pages → d ≡ over 4 n (set (set (zeros 512) 0 3) 1 1)
-      → r ≡ le32 m.root → e ≡ over 8 r d
-      → c ≡ le64 m.commit → f ≡ over 16 c e
-      → p ≡ le32 m.pairs → g ≡ over 24 p f
-      → h ≡ sealed (set g 28 m.levels) → h ≡ meta_page m
-  encoded en ed er ee ec ef ep eg eh =
-      let w = written in
-      cc
-
--- the checksum being right, sealing changes nothing
-pub sealed_back : (b : List ℕ) → is_sealed b ≡ true → sealed b ≡ b
-unfolding sealed is_sealed over
-sealed_back b h =
-    let e : take 4 (drop 12 b) ≡ le32 (checksum_of b) = (bytes_eq-Decides _ _).0 h in
-    ap (λ v. take 12 b ++ (v ++ drop 16 b)) (sym e)
-    ∙ (ap (λ r. take 12 b ++ (take 4 (drop 12 b) ++ r)) (sym (drop-drop 4 12 b))
-    ∙ (ap (λ r. take 12 b ++ r) (take-append-drop 4 (drop 12 b)) ∙ take-append-drop 12 b))
+  pub encoded : {k : ℕ} {n r c p : List ℕ} → k ≡ kind_byte KindMeta → n ≡ le32 m.pages → r ≡ le32 m.root → c ≡ le64 m.commit
+      → p ≡ le32 m.pairs → sealed (written k n r c p) ≡ meta_page m
+  unfolding meta_page laid_out
+  encoded ek en er ec ep = rw (ek, en, er, ec, ep)
 
 front : (b : List ℕ) → 29 ≤ length b → take 29 b ≡
     get_or b 0 0 ∷ get_or b 1 0 ∷ get_or b 2 0 ∷ get_or b 3 0 ∷ get_or b 4 0 ∷ get_or b 5 0 ∷ get_or b 6 0 ∷ get_or b 7 0
@@ -100,13 +79,6 @@ same_parts : {k k' v v' x x' y y' : ℕ} (l : ℕ) {n n' r r' q q' c c' p p' z z
     → k ≡ k' → v ≡ v' → x ≡ x' → y ≡ y' → n ≡ n' → r ≡ r' → q ≡ q' → c ≡ c' → p ≡ p' → z ≡ z'
     → parts k v x y n r q c p l z ≡ parts k' v' x' y' n' r' q' c' p' l z'
 same_parts l ek ev ex ey en er eq ec ep ez = cc
-
-all_zero : (xs : List ℕ) → ((i : ℕ) → i < length xs → get_or xs i 0 ≡ 0) → xs ≡ zeros (length xs)
-all_zero [] h = refl
-all_zero (x ∷ xs) h =
-    let e : x ≡ 0 = h 0 (omega arith) in
-    let f = all_zero xs (λ i l. h (suc i) (omega arith)) in
-    cc
 
 module _ (b : List ℕ) (bytes : Bytes b) (len : length b ≡ 512) (s : Shaped b) where
   back : drop 29 b ≡ zeros 483
@@ -126,8 +98,7 @@ module _ (b : List ℕ) (bytes : Bytes b) (len : length b ≡ 512) (s : Shaped b
       ∙ (ap (λ x. x ++ drop 29 b) (front b (omega arith))
       ∙ same_parts (get_or b 28 0) s.first s.second s.third s.fourth
       (four 4 5 6 7) (four 8 9 10 11) (four 12 13 14 15)
-      (ap (λ x. x ++ (get_or b 20 0 ∷ get_or b 21 0 ∷ get_or b 22 0 ∷ get_or b 23 0 ∷ [])) (four 16 17 18 19)
-      ∙ (ap (λ x. le32 (word32 b 16) ++ x) (four 20 21 22 23) ∙ sym (le64_halves (word32 b 16) (word32 b 20) (word32_small b 16 bytes))))
+      (sym (le64_back _ _ _ _ _ _ _ _ (bytes 16) (bytes 17) (bytes 18) (bytes 19) (bytes 20) (bytes 21) (bytes 22) (bytes 23)))
       (four 24 25 26 27) back)
 
   -- and, their checksum being right, they are that page

@@ -1,7 +1,7 @@
 -- What holds of meta pages.
 use Rattle.std.specs.Prelude.{◌≡◌, ℕ, ◌^◌, ◌<◌, true, false, List, length, Some, None, ◌≢◌, slice_index}
 use Rattle.meta.specs.Layout.{meta_page}
-use Rattle.meta.specs.Words.{zeros}
+use Rattle.checksum.specs.Bytes.{zeros}
 use Rattle.meta.specs.Test.{is_good, passes, read_meta, newer}
 use Rattle.meta.specs.declared.Meta.{Meta}
 

@@ -11,15 +11,16 @@
 --     28        the number of levels
 --     29 - 511  zero
 use Rattle.std.specs.Prelude.{ℕ, List, ◌∷◌, ◌++◌, slice_index}
-use Rattle.checksum.specs.Bytes.{le32}
+use Rattle.checksum.specs.Bytes.{le32, le64, zeros, word32, word64}
+use Rattle.checksum.specs.Kinds.{kind_byte}
 use Rattle.checksum.specs.Sealed.{sealed}
-use Rattle.meta.specs.Words.{le64, zeros, word32, word64}
+use Rattle.checksum.specs.declared.kind.Kind.TheVariants.{Meta as KindMeta}
 use Rattle.meta.specs.declared.Meta.{Meta}
 
 -- these bytes, with a number in the place of the checksum
 unfoldable pub laid_out : ℕ → Meta → List ℕ
 laid_out sum m =
-    3 ∷ 1 ∷ 0 ∷ 0
+    kind_byte KindMeta ∷ 1 ∷ 0 ∷ 0
     ∷ (le32 m.pages ++ (le32 m.root ++ (le32 sum ++ (le64 m.commit ++ (le32 m.pairs ++ m.levels ∷ zeros 483)))))
 
 -- the one page of a meta

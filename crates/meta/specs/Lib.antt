@@ -1,4 +1,3 @@
-pub mod Words
 pub mod Layout
 pub mod Test
 pub mod Shape

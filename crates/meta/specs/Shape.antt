@@ -1,10 +1,12 @@
 -- The parts of the meta test as facts. Only inner functions speak of them.
 use Rattle.std.specs.Prelude.{◌≡◌, ℕ, ◌%◌, ◌<◌, ◌≤◌, List, slice_index, slice_index_or}
+use Rattle.checksum.specs.Kinds.{kind_byte}
+use Rattle.checksum.specs.declared.kind.Kind.TheVariants.{Meta as KindMeta}
 use Rattle.meta.specs.declared.Meta.{Meta}
 
 -- the bytes that hold no number are those of a meta page
 pub record Shaped (b : List ℕ) : Type 0 where
-  pub first : slice_index_or b 0 0 ≡ 3
+  pub first : slice_index_or b 0 0 ≡ kind_byte KindMeta
   pub second : slice_index_or b 1 0 ≡ 1
   pub third : slice_index_or b 2 0 ≡ 0
   pub fourth : slice_index_or b 3 0 ≡ 0

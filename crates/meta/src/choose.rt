@@ -3,19 +3,13 @@ ghost use Rattle.meta.specs.Test.{newer};
 
 use crate::Meta;
 
-// Of what the two meta pages say, that with the larger commit number.
+// Of what the two meta pages say, that with the larger commit number. None is below every commit.
 pub fn newer(a: Option<Meta>, b: Option<Meta>) -> Option<Meta>
     ensures { result ≡ newer a b }
 {
-    match (a, b) {
-        (Some(x), Some(y)) => {
-            if x.commit < y.commit {
-                Some(y)
-            } else {
-                Some(x)
-            }
-        }
-        (Some(x), None) => Some(x),
-        (None, other) => other,
+    if a.map(|m| m.commit) < b.map(|m| m.commit) {
+        b
+    } else {
+        a
     }
 }

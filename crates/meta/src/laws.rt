@@ -2,38 +2,26 @@
 ghost use Rattle.meta.specs.Laws.{PagesReadBack, NothingElseIsRead, ZerosAreNotRead};
 ghost use Rattle.meta.specs.Laws.{TheNewerCounts, SixAndSevenGivesSeven, SevenIsNotForPageZero};
 
-pub fn pages_read_back() -> u8
+pub fn pages_read_back()
     ensures { PagesReadBack }
-{
-    0
-}
+{}
 
-pub fn nothing_else_is_read() -> u8
+pub fn nothing_else_is_read()
     ensures { NothingElseIsRead }
-{
-    0
-}
+{}
 
-pub fn zeros_are_not_read() -> u8
+pub fn zeros_are_not_read()
     ensures { ZerosAreNotRead }
-{
-    0
-}
+{}
 
-pub fn the_newer_counts() -> u8
+pub fn the_newer_counts()
     ensures { TheNewerCounts }
-{
-    0
-}
+{}
 
-pub fn six_and_seven_gives_seven() -> u8
+pub fn six_and_seven_gives_seven()
     ensures { SixAndSevenGivesSeven }
-{
-    0
-}
+{}
 
-pub fn seven_is_not_for_page_zero() -> u8
+pub fn seven_is_not_for_page_zero()
     ensures { SevenIsNotForPageZero }
-{
-    0
-}
+{}

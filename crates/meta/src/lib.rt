@@ -1,7 +1,6 @@
 // Meta pages: what a commit leaves in page 0 or 1, the test that such a page passes, and which of the two counts.
 #![tactic(auto)]
 
-mod bytes;
 mod choose;
 mod encode;
 pub mod laws;
@@ -9,9 +8,7 @@ mod read;
 
 pub use choose::newer;
 
-// The first byte of a meta page, and the second.
-const KIND: u8 = 3;
-
+// The second byte of a meta page; the first is its kind.
 const VERSION: u8 = 1;
 
 // What a meta page says.

@@ -3,9 +3,8 @@ ghost use Rattle.meta.specs.Layout.{meta_in};
 ghost use Rattle.meta.specs.Test.{read_meta};
 ghost use Rattle.meta.specs.Shape.{Shaped, Good};
 
-use crate::bytes::{is_zero_from, read32, read64};
-use crate::{KIND, Meta, VERSION};
-use checksum::is_sealed;
+use crate::{Meta, VERSION};
+use checksum::{Kind, is_sealed};
 use device::Page;
 
 impl Meta {
@@ -13,17 +12,19 @@ impl Meta {
     pub fn read(bytes: &Page, at: u32, pages: u32) -> Option<Meta>
         ensures { result ≡ read_meta at pages bytes.now }
     {
-        if !is_shaped(bytes) {
-            return None;
-        }
-        if !is_sealed(bytes) {
-            return None;
-        }
         let meta = fields(bytes);
-        if !is_good(&meta, at, pages) {
-            return None;
-        }
-        Some(meta)
+        let passes = is_shaped(bytes) && is_sealed(bytes) && meta.is_good(at, pages);
+        passes.then_some(meta)
+    }
+
+    // Whether the numbers are such as a meta page in this place may say.
+    fn is_good(&self, at: u32, pages: u32) -> bool
+        ensures { Decides result (Good at pages self.now) }
+    {
+        self.pages == pages
+            && (2..pages).contains(&self.root)
+            && (1..=7).contains(&self.levels)
+            && self.commit % 2 == u64::from(at)
     }
 }
 
@@ -31,11 +32,11 @@ impl Meta {
 fn is_shaped(bytes: &Page) -> bool
     ensures { Decides result (Shaped bytes.now) }
 {
-    bytes[0] == KIND
+    bytes[0] == Kind::Meta.into()
         && bytes[1] == VERSION
         && bytes[2] == 0
         && bytes[3] == 0
-        && is_zero_from(bytes, 29)
+        && bytes[29..].iter().all(|b| *b == 0)
 }
 
 // What the bytes say, whatever they are.
@@ -43,22 +44,10 @@ fn fields(bytes: &Page) -> Meta
     ensures { result ≡ meta_in bytes.now }
 {
     Meta {
-        pages: read32(bytes, 4),
-        root: read32(bytes, 8),
-        commit: read64(bytes, 16),
-        pairs: read32(bytes, 24),
+        pages: u32::from_le_bytes(bytes[4..8].try_into().unwrap()),
+        root: u32::from_le_bytes(bytes[8..12].try_into().unwrap()),
+        commit: u64::from_le_bytes(bytes[16..24].try_into().unwrap()),
+        pairs: u32::from_le_bytes(bytes[24..28].try_into().unwrap()),
         levels: bytes[28],
     }
-}
-
-// Whether the numbers are such as a meta page in this place may say.
-fn is_good(meta: &Meta, at: u32, pages: u32) -> bool
-    ensures { Decides result (Good at pages meta.now) }
-{
-    meta.pages == pages
-        && meta.root >= 2
-        && meta.root < pages
-        && meta.levels >= 1
-        && meta.levels <= 7
-        && meta.commit % 2 == at as u64
 }
