@@ -1,1 +1,3 @@
-pub mod Zeros
+pub mod Pages
+pub mod Steps
+pub mod Past

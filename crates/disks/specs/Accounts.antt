@@ -1,12 +1,12 @@
--- The device whose writes are durable only after a sync.
-use Rattle.std.specs.Prelude.{◌≡◌, ℕ, Bool, false, List, [], ◌∷◌, slice_index_or}
+-- What the calls of a simulated disk have made true.
+use Rattle.std.specs.Prelude.{◌≡◌, ℕ, Bool, true, false, List, [], ◌∷◌}
 use Rattle.device.specs.Medium.{Medium, Durable}
 use Rattle.device.specs.History.{Event, did_read, did_write, did_sync, power_returned, History, Leads, last_durable}
-use Rattle.disks.specs.Pages.{page_at}
 
--- a page that was not changed since it was last durable is as it was then
-abbrev pub Unchanged : List (List ℕ) → List (List ℕ) → List Bool → Type 0
-Unchanged pages durable changed = (p : ℕ) → slice_index_or changed p false ≡ false → page_at pages p ≡ page_at durable p
+-- no call of the history found a volatile page
+abbrev pub NeverVolatile : History → Type 0
+NeverVolatile [] = Unit {0}
+NeverVolatile (s ∷ h) = NeverVolatile h × Durable s.before
 
 -- what a power return shows of each page is what the page held when it was last durable
 abbrev pub ShowsDurable : Medium → History → Event → Medium → Type 0
@@ -22,7 +22,12 @@ Faithful base (s ∷ h) = Faithful base h × ShowsDurable base h s.event s.after
 
 -- whatever durable medium the history led from, its power returns were faithful, and `durable` has the bytes
 -- that each page had when it was last durable
-abbrev pub Remembers : List (List ℕ) → Medium → History → Type 0
+abbrev pub Remembers : (ℕ → List ℕ) → Medium → History → Type 0
 Remembers durable m h =
     (base : Medium) → Durable base → Leads base h m
-    → Faithful base h × ((p : ℕ) → page_at durable p ≡ last_durable base h p)
+    → Faithful base h × ((p : ℕ) → durable p ≡ last_durable base h p)
+
+-- the histories that may have led to a disk, by whether its writes are durable at once
+abbrev pub Accounts : Bool → (ℕ → List ℕ) → Medium → History → Type 0
+Accounts true durable m h = NeverVolatile h
+Accounts false durable m h = Remembers durable m h
