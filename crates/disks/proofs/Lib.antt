@@ -1,3 +1,4 @@
 pub mod Pages
 pub mod Steps
 pub mod Past
+pub mod Devices

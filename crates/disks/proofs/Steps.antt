@@ -1,5 +1,5 @@
 -- Each call of a disk that is done as its `exact` says is one that the rules allow.
-use Rattle.std.proofs.Common.{◌≡◌, ℕ, zero, suc, ◌+◌, ◌-◌, ◌^◌, ◌<◌, ◌≢◌, min, Bool, true, false, cond, not, ◌||◌, ◌==◌, List, [], ◌∷◌, length, map, set, is_ok, Ok, Err, Result, nat_lt, inr, refl, ap, sym, ◌∙◌, arith, length-set, get_or-set_same, get_or-set_other}
+use Rattle.std.proofs.Common.{◌≡◌, ℕ, zero, suc, ◌+◌, ◌-◌, ◌^◌, ◌<◌, min, Bool, true, false, cond, not, ◌||◌, ◌==◌, List, [], ◌∷◌, length, map, set, is_ok, Ok, Err, Result, nat_lt, inr, refl, ap, sym, ◌∙◌, arith, length-set, get_or-set_same, get_or-set_other}
 use Rattle.std.proofs.lemmas.Bool.{ltb-true, ltb-false}
 use Rattle.std.proofs.lemmas.List.{length-map}
 use Rattle.device.specs.Medium.{Medium, zeros, Durable}
@@ -127,61 +127,70 @@ inside kept xs p o e = let h = ltb-true p (length (map kept xs)) (inside_if _ o 
 
 -- The pages xs and the fuse f of a disk become ys and k.
 module _ {S : Type 0} {g : Ghosts S} (sound : (s : S) → Sound g.at_once (g.kept s)) (xs : List S) (f : Fuse) (ys : List S) (k : Fuse) where
-  abbrev Did : Event → Type 0
-  Did v = Happens (past_of g.at_once (map g.kept xs) (powered f)) (medium (map g.kept xs) f) v (past_of g.at_once (map g.kept ys) (powered k)) (medium (map g.kept ys) k)
+  abbrev ks : List Kept
+  ks = map g.kept xs
 
-  did : (v : Event) → Allowed (medium (map g.kept xs) f) v (medium (map g.kept ys) k)
-      → ((p : ℕ) → (page_at (map g.kept ys) p).volatile ≡ true → (page_at (map g.kept ys) p).durable ≡ (page_at (map g.kept xs) p).durable)
-      → Restores v (map g.kept xs) (map g.kept ys)
+  abbrev ls : List Kept
+  ls = map g.kept ys
+
+  abbrev Did : Event → Type 0
+  Did v = Happens (past_of g.at_once ks (powered f)) (medium ks f) v (past_of g.at_once ls (powered k)) (medium ls k)
+
+  did : (v : Event) → Allowed (medium ks f) v (medium ls k)
+      → ((p : ℕ) → (page_at ls p).volatile ≡ true → (page_at ls p).durable ≡ (page_at ks p).durable)
+      → Restores v ks ls
       → Did v
   did v a l r = record {
-    follows = λ h i. (a, accounts_after g.at_once (map g.kept xs) (map g.kept ys) v (powered f) (powered k) h (record {
-      sound = sound_at g.at_once g.kept sound xs;
-      sound_after = sound_at g.at_once g.kept sound ys;
-      lasts = l;
-      restores = r;
-    }) i);
+    follows = λ h i. (
+      a,
+      accounts_after g.at_once ks ls v (powered f) (powered k) h (record {
+        sound = sound_at g.at_once g.kept sound xs;
+        sound_after = sound_at g.at_once g.kept sound ys;
+        lasts = l;
+        restores = r;
+      }) i,
+    );
   }
 
   pub read_happens : (p : ℕ) (b : List ℕ) (r : Result Unit DeviceFault)
-      → r ≡ answered (nat_lt p (length (map g.kept xs))) (powered (counted f))
-      → map g.kept ys ≡ map g.kept xs
-      → k ≡ cond (nat_lt p (length (map g.kept xs))) (counted f) f
-      → b ≡ cond (is_ok r) (page_at (map g.kept xs) p).bytes zeros
+      → r ≡ answered (nat_lt p (length ks)) (powered (counted f))
+      → ls ≡ ks
+      → k ≡ cond (nat_lt p (length ks)) (counted f) f
+      → b ≡ cond (is_ok r) (page_at ks p).bytes zeros
       → Did (did_read p b r)
   read_happens p b r answers same_pages counts shows =
       did (did_read p b r)
-      (rw (shows, answers, same_pages, counts) (reads (map g.kept xs) f p _ _ refl refl))
-      (λ q _. ap (λ ls. (page_at ls q).durable) same_pages)
+      (rw (shows, answers, same_pages, counts) (reads ks f p _ _ refl refl))
+      (λ q _. ap (λ js. (page_at js q).durable) same_pages)
       tt
 
   pub write_happens : (p : ℕ) (b : List ℕ) (r : Result Unit DeviceFault)
-      → r ≡ answered (nat_lt p (length (map g.kept xs))) (powered (counted f))
-      → map g.kept ys ≡ cond (is_ok r) (set (map g.kept xs) p (written g.at_once b (page_at (map g.kept xs) p))) (map g.kept xs)
-      → k ≡ cond (nat_lt p (length (map g.kept xs))) (counted f) f
+      → r ≡ answered (nat_lt p (length ks)) (powered (counted f))
+      → ls ≡ cond (is_ok r) (set ks p (written g.at_once b (page_at ks p))) ks
+      → k ≡ cond (nat_lt p (length ks)) (counted f) f
       → Did (did_write p b r)
   write_happens p b r answers replaces counts =
       did (did_write p b r)
-      (rw (replaces, answers, counts) (writes g.at_once b (map g.kept xs) f p _ _ refl refl))
-      (rw replaces (write_lasts_if (is_ok r) g.at_once b (map g.kept xs) p))
+      (rw (replaces, answers, counts) (writes g.at_once b ks f p _ _ refl refl))
+      (rw replaces (write_lasts_if (is_ok r) g.at_once b ks p))
       tt
 
   pub sync_happens : (r : Result Unit DeviceFault)
       → r ≡ lasting (powered (counted f))
-      → map g.kept ys ≡ cond (is_ok r) (map settled (map g.kept xs)) (map g.kept xs)
+      → ls ≡ cond (is_ok r) (map settled ks) ks
       → k ≡ counted f
       → Did (did_sync r)
   sync_happens r answers settles counts =
       did (did_sync r)
-      (rw (settles, answers, counts) (syncs (map g.kept xs) f _ refl))
-      (rw settles (sync_lasts_if (is_ok r) (map g.kept xs)))
+      (rw (settles, answers, counts) (syncs ks f _ refl))
+      (rw settles (sync_lasts_if (is_ok r) ks))
       tt
 
-  pub return_happens : map g.kept ys ≡ map restored (map g.kept xs) → k ≡ renewed f → Did power_returned
+  pub return_happens : ls ≡ map restored ks → k ≡ renewed f → Did power_returned
   return_happens restores renews =
-      let e = λ (q : ℕ). page_at-map restored (map g.kept xs) q refl in
+      let e = λ (q : ℕ). page_at-map restored ks q refl in
       did power_returned
-      (rw (restores, renews) (returned g.at_once (map g.kept xs) f (sound_at g.at_once g.kept sound xs)))
+      (rw (restores, renews) (returned g.at_once ks f (sound_at g.at_once g.kept sound xs)))
       (rw restores (λ q _. ap (λ l. l.durable) (e q)))
       (rw restores (λ q. ap (λ l. l.bytes) (e q)))
 

@@ -18,8 +18,8 @@ lasts f = cond (powered f) (Ok tt) (Err Off)
 
 -- after one more call; a device that is off counts no more
 abbrev pub counted : Fuse → Fuse
-counted f = record { limit = f.limit; calls = cond (powered f) (min (f.calls + 1) (2 ^ 64 - 1)) f.calls }
+counted f = record f { calls = cond (powered f) (min (f.calls + 1) (2 ^ 64 - 1)) f.calls }
 
 -- after a power return
 abbrev pub renewed : Fuse → Fuse
-renewed f = fresh f.limit
+renewed f = record f { calls = 0 }

@@ -1,5 +1,5 @@
 // How a simulated disk keeps one page.
-ghost use Rattle.std.specs.Prelude.{◌≡◌, Bool, length};
+ghost use Rattle.std.specs.Prelude.{◌≡◌, Bool, false, length};
 ghost use Rattle.disks.specs.Kept.{Kept, Sound, blank, written, settled, restored};
 
 use device::Page;
@@ -29,11 +29,13 @@ pub trait Stored: Drop {
 
     // Makes the page durable.
     fn settle(&mut self)
-        ensures { kept self.new ≡ settled (kept self.old) };
+        ensures settles { kept self.new ≡ settled (kept self.old) }
+        ensures same { (kept self.old).volatile ≡ false → self.new ≡ self.old };
 
     // Goes back to the durable bytes.
     fn restore(&mut self)
-        ensures { kept self.new ≡ restored (kept self.old) };
+        ensures restores { kept self.new ≡ restored (kept self.old) }
+        ensures same { (kept self.old).volatile ≡ false → self.new ≡ self.old };
 
     ghost full: { (s : Self) → length (kept s).bytes ≡ 512 };
 

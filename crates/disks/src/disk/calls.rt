@@ -3,7 +3,6 @@ ghost use Rattle.device.specs.History.{did_read, did_write, did_sync, power_retu
 ghost use Rattle.disks.specs.Fuses.{fresh};
 ghost use Rattle.disks.specs.Kept.{blank, restored};
 ghost use Rattle.disks.specs.Disks.{pages_of, disk_medium, disk_past, Does, AdmitsAt, DiskReads, DiskWrites, DiskSyncs, DiskReturns};
-
 ghost use Rattle.disks.specs.Parts.{page_length};
 
 use crate::disk::Disk;

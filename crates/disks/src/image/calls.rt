@@ -13,7 +13,7 @@ impl Image {
         if bytes.len() % PAGE_SIZE != 0 {
             return Err(ImageFault::PartialPage);
         }
-        if bytes.len() / PAGE_SIZE > u32::MAX as usize {
+        if u32::try_from(bytes.len() / PAGE_SIZE).is_err() {
             return Err(ImageFault::TooManyPages);
         }
         Ok(Image { bytes })

@@ -1,5 +1,4 @@
 ghost use Rattle.std.specs.Prelude.{◌≡◌, false, length};
-ghost use Rattle.std.proofs.Common.{sym};
 
 use crate::stored::Stored;
 use device::{PAGE_SIZE, Page};

@@ -1,11 +1,10 @@
-use Rattle.std.proofs.Common.{◌≡◌, ◌-◌, length, map, replicate, refl, ap, sym, ◌∙◌, subst, rules, arith}
+use Rattle.std.proofs.Common.{◌≡◌, length, map, replicate, refl, ap, sym, ◌∙◌, rules, arith}
 use Rattle.std.proofs.lemmas.List.{length-map, length-replicate}
 use Rattle.std.proofs.lemmas.List.FromFn.{length-range_with_len}
 use Rattle.std.proofs.lemmas.Iterator.{YieldsList-from_range, YieldsList-from_map_by}
 use Rattle.std.proofs.lemmas.Iterator.Consumers.{map_from_collect, YieldsList-at}
 use Rattle.std.proofs.lemmas.Simd.{splat_is_map}
 use Rattle.std.specs.List.{range_with_len}
-use Rattle.std.specs.Result.{IfOk}
 use Rattle.disks.specs.Fuses.{powered}
 use Rattle.disks.specs.Kept.{blank}
 use Rattle.disks.proofs.Steps.{starts}
@@ -17,10 +16,10 @@ blanks : (g : given.Over) (c : In_ok-collect g) → map g.S.Stored.kept c.in_ok-
 blanks g c =
     let n = c.args.pages in
     let e = map_from_collect c.collect.result c.collect.ensures.ran
-          (YieldsList-from_map_by _ g.S.Stored.kept (λ _. blank)
-            (YieldsList-at c.map.ensures.source (YieldsList-from_range 0 n n refl (omega arith)))
-            c.map.ensures.closure
-            (λ x r q k. search rules)) in
+    (YieldsList-from_map_by _ g.S.Stored.kept (λ _. blank)
+    (YieldsList-at c.map.ensures.source (YieldsList-from_range 0 n n refl (omega arith)))
+    c.map.ensures.closure
+    (λ x r q k. search rules)) in
     let h = rw c.in_ok-collect.was at e in
     h ∙ sym (splat_is_map (range_with_len 0 n) n blank (length-range_with_len 0 n))
 

@@ -1,5 +1,4 @@
-use Rattle.std.proofs.Common.{◌<◌, length, map, set, ap, ◌∙◌, rules, arith}
-use Rattle.std.proofs.lemmas.Grind.{common_steps}
+use Rattle.std.proofs.Common.{map, set, ap, ◌∙◌, rules}
 use Rattle.disks.specs.Kept.{written, page_at}
 use Rattle.disks.specs.Disks.{DiskWrites}
 use Rattle.disks.proofs.Pages.{wrote_at}
@@ -22,7 +21,7 @@ returns g c =
     let new = c.admit_at.new.self in
     let l = inside g.S.Stored.kept old.pages.items p _ a.answers in
     let e = wrote_at g.S.Stored.kept g.S.Stored.at_once b new.pages.items p c.index_mut.result.now c.write.new.self (rw a.same_pages l) c.index_mut.ensures.value c.write.ensures
-        ∙ ap (λ v. set (map g.S.Stored.kept v.items) p (written g.S.Stored.at_once b (page_at (map g.S.Stored.kept v.items) p))) a.same_pages in
+    ∙ ap (λ v. set (map g.S.Stored.kept v.items) p (written g.S.Stored.at_once b (page_at (map g.S.Stored.kept v.items) p))) a.same_pages in
     record {
       meaning = write_happens g.met.S.Stored.sound old.pages.items old.fuse (set new.pages.items p c.write.new.self) new.fuse _ _ _ a.answers e a.counts;
       exact = record { answers = a.answers; replaces = e; counts = a.counts };

@@ -1,21 +1,29 @@
-use Rattle.std.proofs.Common.{◌<◌, length, map, rules, arith}
-use Rattle.std.proofs.lemmas.Grind.{common_steps}
-use Rattle.std.proofs.lemmas.List.{length-map}
+use Rattle.std.proofs.Common.{◌≡◌, rules, arith}
 use Rattle.std.specs.Vec.{with_items}
+use Rattle.disks.specs.declared.fuse.Fuse.{Fuse}
+use Rattle.disks.specs.Fuses.{renewed}
 use Rattle.disks.specs.Kept.{restored}
-use Rattle.disks.proofs.Pages.{changes_more, all_changed}
+use Rattle.disks.proofs.Pages.{turned_more, all_turned, none_turned}
 use Rattle.disks.proofs.Steps.{return_happens}
 use Rattle.disks.proofs.disk.calls.DiskPowerCycle.power_return.Goals as goal
 
 pub loop-page-preserved : goal.loop-page-preserved
 loop-page-preserved g c =
-    let ks = map g.S.Stored.kept c.deref_mut-page-items.result.now in
-    let l : c.loop-page.page-index < length ks = omega (arith, length-map c.deref_mut-page-items.result.now g.S.Stored.kept) in
-    changes_more g.S.Stored.kept restored ks c.loop-page.page-items c.loop-page.page-index c.page-item.result c.restore.new.self l (omega arith) c.loop-page.invariant c.restore.ensures
+    let l = c.loop-page in
+    turned_more g.S.Stored.kept restored c.deref_mut-page-items.result.now l.page-items l.page-index c.page-item.result c.restore.new.self (omega arith) (omega arith) l.invariant c.restore.ensures.restores c.restore.ensures.same
 
-pub returns-clause-meaning : goal.returns-clause-meaning
-returns-clause-meaning g c =
+pub returns : goal.returns
+returns g c =
     let old = c.args.self.now in
-    let items = (with_items old.pages c.loop-page.page-items).items in
-    let e = all_changed g.S.Stored.kept restored old.pages c.deref_mut-page-items.result.now c.loop-page.page-items c.loop-page.page-index c.deref_mut-page-items.ensures.value (omega arith) (omega arith) c.loop-page.invariant in
-    return_happens g.met.S.Stored.sound old.pages.items old.fuse items c.renew.new.self e c.renew.ensures
+    let l = c.loop-page in
+    let items = (with_items old.pages l.page-items).items in
+    let from = c.deref_mut-page-items.ensures.value in
+    let e = all_turned g.S.Stored.kept restored old.pages c.deref_mut-page-items.result.now l.page-items l.page-index from (omega arith) (omega arith) l.invariant in
+    let h = λ (k : Fuse) (n : k ≡ renewed old.fuse). return_happens g.met.S.Stored.sound old.pages.items old.fuse items k e n in record {
+      meaning = search (rules, h);
+      exact = record {
+        restores = e;
+        same = none_turned g.S.Stored.kept restored old.pages c.deref_mut-page-items.result.now l.page-items l.page-index from l.invariant;
+        renews = search rules;
+      };
+    }

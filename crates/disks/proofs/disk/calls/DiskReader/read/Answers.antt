@@ -1,8 +1,7 @@
 use Rattle.device.specs.Medium.{zeros}
-use Rattle.std.proofs.Common.{◌<◌, length, Ok, map, ap, ◌∙◌, rules, arith}
+use Rattle.std.proofs.Common.{Ok, map, ap, rules, arith}
 use Rattle.std.proofs.lemmas.Grind.{common_steps}
 use Rattle.disks.specs.Disks.{DiskReads}
-use Rattle.disks.proofs.Pages.{kept_at}
 use Rattle.disks.proofs.Steps.{read_happens}
 use Rattle.disks.proofs.disk.calls.DiskReader.read.Goals as goal
 
