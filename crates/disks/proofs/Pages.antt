@@ -22,7 +22,7 @@ page_at-map f (k ∷ ks) zero e = refl
 page_at-map f (k ∷ ks) (suc p) e = page_at-map f ks p e
 
 -- s is the page p of xs, and t what a write of b makes of it
-pub kept_at : {S : Type 0} (kept : S → Kept) (xs : List S) (p : ℕ) (s : S) → p < length xs → s ≡ get_or xs p s → kept s ≡ page_at (map kept xs) p
+kept_at : {S : Type 0} (kept : S → Kept) (xs : List S) (p : ℕ) (s : S) → p < length xs → s ≡ get_or xs p s → kept s ≡ page_at (map kept xs) p
 kept_at kept xs p s h e = ap kept e ∙ sym (get_or-map kept xs p s _ h)
 
 pub wrote_at : {S : Type 0} (kept : S → Kept) (a : Bool) (b : List ℕ) (xs : List S) (p : ℕ) (s t : S) → p < length xs → s ≡ get_or xs p s → kept t ≡ written a b (kept s)

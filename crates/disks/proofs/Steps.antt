@@ -66,7 +66,6 @@ writes a b ks f p true true i o =
     let k = written a b (page_at ks p) in
     (h, stays_on ks (set ks p k) f o, ap (λ l. l.bytes) (get_or-set_same ks p k _ h), keeps_but ks k f (counted f) p)
 writes a b ks f p true false i o =
-    let k = same ks f (counted f) in
     (ltb-true p (length ks) i, is_off ks f o, inr refl, record { same_size = refl; same_bytes = λ q _. refl; stays_durable = λ q _ e. e })
 writes a b ks f p false o i _ = (ltb-false p (length ks) i, refl)
 
@@ -93,7 +92,7 @@ returned a ks f sound =
       keeps = λ p v. ap (λ l. l.bytes) (e p) ∙ (sound p).agrees v;
     }
 
--- a page that a write leaves volatile was last durable when it was before
+-- a page that a write or a sync leaves volatile was last durable when it was before
 by_sync : (a : Bool) (x y : List ℕ) → not a ≡ true → cond a x y ≡ y
 by_sync false x y e = refl
 by_sync true x y e = cc
@@ -111,7 +110,6 @@ write_lasts_if : (o a : Bool) (b : List ℕ) (ks : List Kept) (q p : ℕ) → (p
 write_lasts_if true a b ks q p v = write_lasts a b ks q p v
 write_lasts_if false a b ks q p v = refl
 
--- a sync leaves none
 sync_lasts_if : (o : Bool) (ks : List Kept) (p : ℕ) → (page_at (cond o (map settled ks) ks) p).volatile ≡ true
     → (page_at (cond o (map settled ks) ks) p).durable ≡ (page_at ks p).durable
 sync_lasts_if true ks p v = let n = ap (λ l. l.volatile) (page_at-map settled ks p refl) in cc

@@ -5,7 +5,7 @@ use crate::stored::{AtOnce, AtSync, Stored};
 
 mod calls;
 
-// A simulated device.
+// A simulated device. How it keeps its pages is left to their type.
 #[derive(Drop)]
 pub struct Disk<S: Stored> {
     pages: Vec<S>,

@@ -62,6 +62,7 @@ impl<S: Stored> Reader for Disk<S> {
     ghost whole = { λ d p h. page_length S.kept S.full d.pages.items p h };
 
     fn pages(&self) -> u32 {
+        // it fits, by `few`: a try_from would have an error that cannot be
         self.pages.len() as u32
     }
 

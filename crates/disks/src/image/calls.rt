@@ -28,6 +28,7 @@ impl Reader for Image {
     ghost whole = { λ d p h. part_length (bytes_of d) p h };
 
     fn pages(&self) -> u32 {
+        // it fits, by `few`: a try_from would have an error that cannot be
         (self.bytes.len() / PAGE_SIZE) as u32
     }
 
