@@ -1,1 +1,5 @@
-pub mod Zeros
+pub mod Pages
+pub mod Steps
+pub mod Past
+pub mod Devices
+pub mod Copies

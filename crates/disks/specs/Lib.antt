@@ -1,9 +1,7 @@
-pub mod Pages
 pub mod Fuses
-pub mod Banks
-pub mod Through
-pub mod Behind
-pub mod BehindCalls
+pub mod Kept
+pub mod Accounts
+pub mod Disks
 pub mod Images
 pub mod ImageFaults
 pub mod ImageCalls

@@ -1,5 +1,7 @@
 ghost use Rattle.std.specs.Prelude.{◌≡◌};
-ghost use Rattle.disks.specs.Fuses.{powered, counted, renewed};
+ghost use Rattle.disks.specs.Fuses.{fresh, powered, lasts, counted, renewed};
+
+use device::DeviceFault;
 
 // When power fails: the `limit`-th call is the first that is refused, none if `limit` is 0.
 #[derive(Clone, Copy)]
@@ -11,8 +13,7 @@ pub struct Fuse {
 
 impl Fuse {
     pub fn new(limit: u64) -> Self
-        ensures limit { result.limit ≡ limit }
-        ensures calls { result.calls ≡ 0 }
+        ensures { result ≡ fresh limit }
     {
         Fuse { limit, calls: 0 }
     }
@@ -29,15 +30,19 @@ impl Fuse {
         self.calls
     }
 
-    // Counts a call, and says whether power lasts for it.
-    pub fn call(&mut self) -> bool
-        ensures after { self.new ≡ counted self.old }
-        ensures answer { result ≡ powered (counted self.old) }
+    // Counts a call, and refuses it if power fails.
+    pub fn call(&mut self) -> Result<(), DeviceFault>
+        ensures counts { self.new ≡ counted self.old }
+        ensures answers { result ≡ lasts (counted self.old) }
     {
         if self.is_on() {
             self.calls = self.calls.saturating_add(1);
         }
-        self.is_on()
+        if self.is_on() {
+            Ok(())
+        } else {
+            Err(DeviceFault::Off)
+        }
     }
 
     pub fn renew(&mut self)

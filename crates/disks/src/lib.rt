@@ -1,12 +1,10 @@
 #![tactic(auto)]
 
-mod bank;
+mod disk;
 mod fuse;
 mod image;
-mod memory;
-mod write_behind;
-mod write_through;
+mod stored;
 
+pub use disk::{Disk, WriteBehind, WriteThrough};
 pub use image::{Image, ImageFault};
-pub use write_behind::WriteBehind;
-pub use write_through::WriteThrough;
+pub use stored::{AtOnce, AtSync, Stored};

@@ -13,7 +13,7 @@ impl Image {
         if bytes.len() % PAGE_SIZE != 0 {
             return Err(ImageFault::PartialPage);
         }
-        if bytes.len() / PAGE_SIZE > u32::MAX as usize {
+        if u32::try_from(bytes.len() / PAGE_SIZE).is_err() {
             return Err(ImageFault::TooManyPages);
         }
         Ok(Image { bytes })
@@ -28,6 +28,7 @@ impl Reader for Image {
     ghost whole = { λ d p h. part_length (bytes_of d) p h };
 
     fn pages(&self) -> u32 {
+        // it fits, by `few`: a try_from would have an error that cannot be
         (self.bytes.len() / PAGE_SIZE) as u32
     }
 
