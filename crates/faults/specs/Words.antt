@@ -1,28 +1,9 @@
 -- What is printed of the store's faults.
 use Rattle.std.specs.Prelude.{ℕ, List, ◌++◌, codes, decimal}
-use Rattle.device.specs.Faults.{words as device_words}
-use Rattle.page.specs.declared.fault.Cause.{Cause}
-use Rattle.page.specs.declared.fault.Cause.TheVariants.{Checksum, Kind, Layout, Order, Bounds, Underfull, Child, PairCount}
-use Rattle.page.specs.declared.fault.Damage.{Damage}
-use Rattle.page.specs.declared.fault.PageFault.TheVariants.{Device, Damaged}
-use Rattle.faults.specs.Numbers.{number, cause_number}
+use Rattle.page.specs.Faults.{page_words}
+use Rattle.faults.specs.Numbers.{number}
 use Rattle.faults.specs.declared.fault.StoreFault.{StoreFault}
 use Rattle.faults.specs.declared.fault.StoreFault.TheVariants.{Shut, InTransaction, NoTransaction, KeyLength, Absent, NoMeta, Page, PageCount, LastCommit, NoCell}
-
-abbrev pub cause_words : Cause → List ℕ
-cause_words Checksum = codes "checksum is wrong"
-cause_words Kind = codes "kind byte is not the one of this level"
-cause_words Layout = codes "bytes are not the page of their cells"
-cause_words Order = codes "keys or separators do not rise"
-cause_words Bounds = codes "a key or separator is outside its bounds"
-cause_words Underfull = codes "page is underfull, or a branch root has no separator"
-cause_words Child = codes "a child is outside the tree's pages, or was met before"
-cause_words PairCount = codes "pair count is not the meta page's"
-
--- which page is damaged, and how
-abbrev pub damage_words : Damage → List ℕ
-damage_words d =
-    codes "page " ++ (decimal d.page ++ (codes ", cause " ++ (decimal (cause_number d.cause) ++ (codes ": " ++ cause_words d.cause))))
 
 -- what is refused, the page left out
 abbrev pub plain_words : StoreFault → List ℕ
@@ -44,8 +25,7 @@ words NoTransaction = plain_words NoTransaction
 words KeyLength = plain_words KeyLength
 words Absent = plain_words Absent
 words NoMeta = plain_words NoMeta
-words (Page (Device f)) = device_words f
-words (Page (Damaged d)) = damage_words d
+words (Page f) = page_words f
 words PageCount = plain_words PageCount
 words LastCommit = plain_words LastCommit
 words NoCell = plain_words NoCell

@@ -3,7 +3,6 @@ ghost use Rattle.faults.specs.Faults.{from_page, from_device};
 ghost use Rattle.faults.specs.Numbers.{number};
 ghost use Rattle.faults.specs.Words.{plain_words, shown_fault};
 
-use crate::cause::{cause_number, cause_words};
 use device::DeviceFault;
 use page::PageFault;
 use std::error::Error;
@@ -96,13 +95,7 @@ impl fmt::Display for StoreFault {
     fn fmt<W: fmt::Write>(&self, f: &mut fmt::Formatter<W>) -> fmt::Result {
         let number = self.number();
         match *self {
-            StoreFault::Page(PageFault::Device(fault)) => write!(f, "fault {number}: {fault}"),
-            StoreFault::Page(PageFault::Damaged(damage)) => {
-                let page = damage.page;
-                let cause = cause_number(damage.cause);
-                let words = cause_words(damage.cause);
-                write!(f, "fault {number}: page {page}, cause {cause}: {words}")
-            }
+            Self::Page(fault) => write!(f, "fault {number}: {fault}"),
             plain => {
                 let words = plain.as_str();
                 write!(f, "fault {number}: {words}")

@@ -6,7 +6,7 @@ use Rattle.cuts.specs.Sizes.{quarter}
 use Rattle.tree.specs.Trees.{leaf_cost, branch_cost}
 use Rattle.tree.specs.Search.{or_else}
 use Rattle.tree.specs.Sound.{Bound, none, before}
-use Rattle.page.specs.Kinds.{leaf_rules, branch_rules}
+use Rattle.page.specs.Kinds.{Rules, leaf_rules, branch_rules}
 use Rattle.page.specs.Reading.{first_fault}
 use Rattle.page.specs.Views.{pairs_in, branch_in}
 use Rattle.page.specs.declared.fault.Cause.{Cause}
@@ -41,20 +41,25 @@ abbrev pub branch_filled : Bool → Branch ℕ → Bool
 branch_filled true b = nat_lt 0 (length b.rest)
 branch_filled false b = nat_le quarter (branch_cost b)
 
--- What is wrong first with the bytes of one page, whose keys or separators should be from lo on and under hi: what
--- reading finds, then what is wrong with the node in its place.
+-- What is wrong first with a node in its place, whose keys or separators should be from lo on and under hi.
+abbrev pub cause_in : (lo : List ℕ) (hi : Bound) (keys : List (List ℕ)) (filled : Bool) → Option Cause
+cause_in lo hi keys filled = or_else (unless (all_within lo hi keys) Bounds) (unless filled Underfull)
+
 abbrev pub leaf_cause : (root : Bool) (lo : List ℕ) (hi : Bound) → List Pair → Option Cause
-leaf_cause root lo hi ps = or_else (unless (all_within lo hi (keys_of ps)) Bounds) (unless (leaf_filled root ps) Underfull)
+leaf_cause root lo hi ps = cause_in lo hi (keys_of ps) (leaf_filled root ps)
 
 abbrev pub branch_cause : (root : Bool) (lo : List ℕ) (hi : Bound) → Branch ℕ → Option Cause
-branch_cause root lo hi b =
-    or_else (unless (all_within lo hi (separators_of b.rest)) Bounds) (unless (branch_filled root b) Underfull)
+branch_cause root lo hi b = cause_in lo hi (separators_of b.rest) (branch_filled root b)
+
+-- The same of the bytes of one page: what reading finds, then what is wrong with the node in its place.
+abbrev pub fault_in : Rules → (List ℕ → Option Cause) → List ℕ → Option Cause
+fault_in K cause b = or_else (first_fault K b) (cause b)
 
 unfoldable pub leaf_fault : (root : Bool) (lo : List ℕ) (hi : Bound) → List ℕ → Option Cause
-leaf_fault root lo hi b = or_else (first_fault leaf_rules b) (leaf_cause root lo hi (pairs_in b))
+leaf_fault root lo hi = fault_in leaf_rules (λ b. leaf_cause root lo hi (pairs_in b))
 
 unfoldable pub branch_fault : (root : Bool) (lo : List ℕ) (hi : Bound) → List ℕ → Option Cause
-branch_fault root lo hi b = or_else (first_fault branch_rules b) (branch_cause root lo hi (branch_in b))
+branch_fault root lo hi = fault_in branch_rules (λ b. branch_cause root lo hi (branch_in b))
 
 -- a child with the bounds that it inherits: the separators around it, and the parent's at both ends
 pub record Slot (X : Type 0) : Type 0 where

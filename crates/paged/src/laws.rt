@@ -1,20 +1,14 @@
 // The laws of the walk. These functions do nothing: each carries the law in its contract.
 ghost use Rattle.paged.specs.Laws.{WalksAcceptSoundTrees, OneTreeLies, SoundTreesOnPagesAreLow};
 
-pub fn one_tree_lies() -> u8
+pub fn one_tree_lies()
     ensures { OneTreeLies }
-{
-    0
-}
+{}
 
-pub fn walks_accept_sound_trees() -> u8
+pub fn walks_accept_sound_trees()
     ensures { WalksAcceptSoundTrees }
-{
-    0
-}
+{}
 
-pub fn sound_trees_on_pages_are_low() -> u8
+pub fn sound_trees_on_pages_are_low()
     ensures { SoundTreesOnPagesAreLow }
-{
-    0
-}
+{}

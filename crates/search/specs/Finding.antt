@@ -14,6 +14,7 @@ use Rattle.page.specs.declared.fault.PageFault.{PageFault}
 use Rattle.page.specs.declared.fault.PageFault.TheVariants.{Device}
 use Rattle.paged.specs.Paged.{PagedTree, root_page, children, pages_of, as_tree, pairs_on, Lies}
 use Rattle.search.specs.declared.Place.{Place}
+use Rattle.search.specs.declared.Tree.{Tree}
 
 -- the pair with this key in a list, if there is one
 abbrev pub pair_with : List ℕ → List Pair → Option Pair
@@ -55,11 +56,11 @@ pub record Standing (m : Medium) (n root : ℕ) (t : PagedTree n) : Type 0 where
 
 -- Whichever sound tree of this height stands there, the search finds in it what is wanted of its pairs. (At most one
 -- tree stands there. Where none does, or one that is not sound, nothing is said.)
-abbrev pub Finds : Medium → (on : Bool) → (root height : ℕ) → (List Pair → Option Pair) → Result (Option Place) PageFault → Type 0
-Finds m on root height want r = (n : ℕ) (t : PagedTree n)
-    → height ≡ n → Standing m n root t → SoundTree (as_tree n t) → Answers m.bytes n t on (want (pairs_on n t)) r
+abbrev pub Finds : Medium → (on : Bool) → Tree → (List Pair → Option Pair) → Result (Option Place) PageFault → Type 0
+Finds m on at want r = (n : ℕ) (t : PagedTree n)
+    → at.height ≡ n → Standing m n at.root t → SoundTree (as_tree n t) → Answers m.bytes n t on (want (pairs_on n t)) r
 
 -- a search on a device: reads lead from the medium m to the medium n, and it has found what is wanted
-abbrev pub Searches : (P : History → Type 0) (m : Medium) (Q : History → Type 0) (n : Medium) (root height : ℕ)
+abbrev pub Searches : (P : History → Type 0) (m : Medium) (Q : History → Type 0) (n : Medium) → Tree
     → (List Pair → Option Pair) → Result (Option Place) PageFault → Type 0
-Searches P m Q n root height want r = Looks P m Q n (λ _. Finds m n.on root height want r)
+Searches P m Q n at want r = Looks P m Q n (λ _. Finds m n.on at want r)

@@ -1,13 +1,15 @@
 // The ways down: each step loads a page. What a search finds from a page on is what the same search finds in the tree
 // as a value, for every tree that stands there, sound or not (specs/Following.antt).
+//
+// Two functions, and not one for both: the way to a key ends under one child, the way to the next key may go on under
+// the next child, and a text that asks at each step which of the two it is would be longer than they are.
 ghost use Rattle.std.specs.Prelude.{◌≡◌, ◌≤◌, length};
 ghost use Rattle.tree.specs.Maps.{first_above};
-ghost use Rattle.tree.specs.Search.{child_at};
 ghost use Rattle.page.specs.Views.{leaf_pairs, branch_node};
 ghost use Rattle.search.specs.Finding.{pair_with};
-ghost use Rattle.search.specs.Following.{Descends, InLeaf, find_pair, find_next};
+ghost use Rattle.search.specs.Following.{Descends, InLeaf, find_pair, find_next, tree_under};
 
-use crate::Place;
+use crate::{Place, Tree};
 use device::Reader;
 use page::{BranchPage, LeafPage, PageFault};
 
@@ -31,52 +33,56 @@ fn after_in(leaf: LeafPage, key: &[u8]) -> Option<Place>
     }
 }
 
-// The page of child i.
-fn child_of(branch: &BranchPage, i: usize) -> u32
-    requires { i ≤ length (branch_node branch.now).rest }
-    ensures { result ≡ child_at i (branch_node branch.now).first (branch_node branch.now).rest }
-{
-    branch.child(i).unwrap()
-}
+impl Tree {
+    // The tree under child i of the branch on its root.
+    fn under(self, branch: &BranchPage, i: usize) -> Tree
+        requires tall { 1 ≤ self.height }
+        requires within { i ≤ length (branch_node branch.now).rest }
+        ensures { result ≡ tree_under self i (branch_node branch.now) }
+    {
+        Tree {
+            root: branch.child(i).unwrap(),
+            height: self.height - 1,
+        }
+    }
 
-// Under the child that the key lies under, and so on down to a leaf.
-pub(crate) fn find_from<R: Reader>(
-    reader: &mut R,
-    page: u32,
-    height: u8,
-    key: &[u8],
-) -> Result<Option<Place>, PageFault>
-    ensures { Descends (R.Reader.past reader.old) (R.Reader.medium reader.old) (R.Reader.past reader.new) (R.Reader.medium reader.new) page height (find_pair key.now) result }
-{
-    if height == 0 {
-        let leaf = LeafPage::load(reader, page)?;
-        return Ok(find_in(leaf, key));
+    // Under the child that the key lies under, and so on down to a leaf.
+    pub(crate) fn find_down<R: Reader>(
+        self,
+        reader: &mut R,
+        key: &[u8],
+    ) -> Result<Option<Place>, PageFault>
+        ensures { Descends (R.Reader.past reader.old) (R.Reader.medium reader.old) (R.Reader.past reader.new) (R.Reader.medium reader.new) self (find_pair key.now) result }
+    {
+        if self.height == 0 {
+            let leaf = LeafPage::load(reader, self.root)?;
+            return Ok(find_in(leaf, key));
+        }
+        let branch = BranchPage::load(reader, self.root)?;
+        let child = self.under(&branch, branch.place(key));
+        child.find_down(reader, key)
     }
-    let branch = BranchPage::load(reader, page)?;
-    let child = child_of(&branch, branch.place(key));
-    find_from(reader, child, height - 1, key)
-}
 
-// Under the child that the key lies under; if there is no such pair there, under the next child.
-pub(crate) fn after_from<R: Reader>(
-    reader: &mut R,
-    page: u32,
-    height: u8,
-    key: &[u8],
-) -> Result<Option<Place>, PageFault>
-    ensures { Descends (R.Reader.past reader.old) (R.Reader.medium reader.old) (R.Reader.past reader.new) (R.Reader.medium reader.new) page height (find_next key.now) result }
-{
-    if height == 0 {
-        let leaf = LeafPage::load(reader, page)?;
-        return Ok(after_in(leaf, key));
+    // Under the child that the key lies under; if there is no such pair there, under the next child.
+    pub(crate) fn after_down<R: Reader>(
+        self,
+        reader: &mut R,
+        key: &[u8],
+    ) -> Result<Option<Place>, PageFault>
+        ensures { Descends (R.Reader.past reader.old) (R.Reader.medium reader.old) (R.Reader.past reader.new) (R.Reader.medium reader.new) self (find_next key.now) result }
+    {
+        if self.height == 0 {
+            let leaf = LeafPage::load(reader, self.root)?;
+            return Ok(after_in(leaf, key));
+        }
+        let branch = BranchPage::load(reader, self.root)?;
+        let i = branch.place(key);
+        if let Some(place) = self.under(&branch, i).after_down(reader, key)? {
+            return Ok(Some(place));
+        }
+        if i == branch.len() {
+            return Ok(None);
+        }
+        self.under(&branch, i + 1).after_down(reader, key)
     }
-    let branch = BranchPage::load(reader, page)?;
-    let i = branch.place(key);
-    if let Some(place) = after_from(reader, child_of(&branch, i), height - 1, key)? {
-        return Ok(Some(place));
-    }
-    if i == branch.len() {
-        return Ok(None);
-    }
-    after_from(reader, child_of(&branch, i + 1), height - 1, key)
 }

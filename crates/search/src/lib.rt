@@ -15,6 +15,13 @@ mod lookup;
 
 pub use lookup::pair;
 
+// A tree on the pages of a reader: from page `root` on, with `height` levels of branches above its leaves.
+#[derive(Clone, Copy, PartialEq, Eq, Debug)]
+pub struct Tree {
+    pub root: u32,
+    pub height: u8,
+}
+
 // A pair's place: the leaf that holds it, and the number of its cell.
 #[derive(Clone, Copy)]
 pub struct Place {
@@ -22,27 +29,18 @@ pub struct Place {
     pub cell: usize,
 }
 
-// The place of the pair with this key, in the tree with `height` levels of branches above its leaves, from page
-// `root` on.
-pub fn find<R: Reader>(
-    reader: &mut R,
-    root: u32,
-    height: u8,
-    key: &[u8],
-) -> Result<Option<Place>, PageFault>
-    ensures { Searches (R.Reader.past reader.old) (R.Reader.medium reader.old) (R.Reader.past reader.new) (R.Reader.medium reader.new) root height (pair_with key.now) result }
-{
-    descent::find_from(reader, root, height, key)
-}
+impl Tree {
+    // The place of the pair with this key.
+    pub fn find<R: Reader>(self, reader: &mut R, key: &[u8]) -> Result<Option<Place>, PageFault>
+        ensures { Searches (R.Reader.past reader.old) (R.Reader.medium reader.old) (R.Reader.past reader.new) (R.Reader.medium reader.new) self (pair_with key.now) result }
+    {
+        self.find_down(reader, key)
+    }
 
-// The place of the first pair with a greater key. The key may be empty.
-pub fn after<R: Reader>(
-    reader: &mut R,
-    root: u32,
-    height: u8,
-    key: &[u8],
-) -> Result<Option<Place>, PageFault>
-    ensures { Searches (R.Reader.past reader.old) (R.Reader.medium reader.old) (R.Reader.past reader.new) (R.Reader.medium reader.new) root height (first_above key.now) result }
-{
-    descent::after_from(reader, root, height, key)
+    // The place of the first pair with a greater key. The key may be empty.
+    pub fn after<R: Reader>(self, reader: &mut R, key: &[u8]) -> Result<Option<Place>, PageFault>
+        ensures { Searches (R.Reader.past reader.old) (R.Reader.medium reader.old) (R.Reader.past reader.new) (R.Reader.medium reader.new) self (first_above key.now) result }
+    {
+        self.after_down(reader, key)
+    }
 }

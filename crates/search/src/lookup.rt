@@ -16,8 +16,5 @@ pub fn pair(buffer: &Page, cell: usize) -> Result<PairParts<'_>, StoreFault>
     ensures parts { LiesIn buffer.now (result_ok result) }
     ensures refusal { IfErr result (λ f. f ≡ NoCell) }
 {
-    match pair_in(buffer, cell) {
-        Some(parts) => Ok(parts),
-        None => Err(StoreFault::NoCell),
-    }
+    pair_in(buffer, cell).ok_or(StoreFault::NoCell)
 }

@@ -66,20 +66,21 @@ ok_fine false w k b ps t = let e = t.answered in let z : ◌≡◌ {A = ℕ} 0 1
 ok_fine true (fault d) k b ps t = let e = t.answered in let z : ◌≡◌ {A = ℕ} 0 1 = cc in let bad : ⊥ = omega arith in absurd bad
 ok_fine true (fine met j) k b ps t = let e = t.answered in let q : j ≡ k = cc in (refl, (met, ap (fine met) q, t.left.0, t.left.1))
 
-module _ (P : History → Type 0) (m : Medium) (Q : History → Type 0) (n : Medium) (size : ℕ) (x : Meta) (b b' : List Bool) (new : MarksAre b []) where
-  abbrev root_walk : (ℕ → List ℕ) → List ℕ → Walked
-  root_walk f = walk f size true (x.levels - 1) [] none x.root
+-- the walk of the tree that a meta names
+abbrev root_walk : (size : ℕ) (x : Meta) → (ℕ → List ℕ) → List ℕ → Walked
+root_walk size x f = walk f size true (x.levels - 1) [] none x.root
 
-  pub tree_broken : (f : PageFault) → Walks P m Q n size b b' root_walk (Err f) → Looks P m Q n (λ t. size ≤ m.size → WalksTree m size x n.on t (Err f))
-  tree_broken f w = record {
+module _ (P : History → Type 0) (m : Medium) (Q : History → Type 0) (n : Medium) (size : ℕ) (x : Meta) (b b' : List Bool) (new : MarksAre b []) where
+  broken : (f : PageFault) → Walks P m Q n size b b' (root_walk size x) (Err f) → Looks P m Q n (λ t. size ≤ m.size → WalksTree m size x n.on t (Err f))
+  broken f w = record {
     follows = λ h p.
         let r = w.looks.follows h p in
-        (r.0, r.1, r.2, r.3, λ sz. err_verdict m.bytes (x.levels - 1) x.root x.pairs n.on (root_walk m.bytes []) f (r.4 sz [] new).answered);
+        (r.0, r.1, r.2, r.3, λ sz. err_verdict m.bytes (x.levels - 1) x.root x.pairs n.on (root_walk size x m.bytes []) f (r.4 sz [] new).answered);
   }
 
-  pub tree_miscounted : (k : ℕ) → (k ≡ x.pairs → ⊥) → Walks P m Q n size b b' root_walk (Ok k)
+  miscounted : (k : ℕ) → (k ≡ x.pairs → ⊥) → Walks P m Q n size b b' (root_walk size x) (Ok k)
       → Looks P m Q n (λ t. size ≤ m.size → WalksTree m size x n.on t (Err (Damaged (damage x.root PairCount))))
-  tree_miscounted k ne w = record {
+  miscounted k ne w = record {
     follows = λ h p.
         let r = w.looks.follows h p in (
           r.0,
@@ -87,14 +88,14 @@ module _ (P : History → Type 0) (m : Medium) (Q : History → Type 0) (n : Med
           r.2,
           r.3,
           λ sz.
-              let f = ok_fine n.on (root_walk m.bytes []) k b' _ (r.4 sz [] new) in
+              let f = ok_fine n.on (root_walk size x m.bytes []) k b' _ (r.4 sz [] new) in
               rw (f.0, f.1.1, ne_eqb k x.pairs ne),
         );
   }
 
-  pub tree_walked : (k : ℕ) (marks : Marks) → marks.marked ≡ b' → k ≡ x.pairs → Walks P m Q n size b b' root_walk (Ok k)
+  walked_lem : (k : ℕ) (marks : Marks) → marks.marked ≡ b' → k ≡ x.pairs → Walks P m Q n size b b' (root_walk size x) (Ok k)
       → Looks P m Q n (λ t. size ≤ m.size → WalksTree m size x n.on t (Ok marks))
-  tree_walked k marks same e w = record {
+  walked_lem k marks same e w = record {
     follows = λ h p.
         let r = w.looks.follows h p in (
           r.0,
@@ -102,7 +103,7 @@ module _ (P : History → Type 0) (m : Medium) (Q : History → Type 0) (n : Med
           r.2,
           r.3,
           λ sz.
-              let f = ok_fine n.on (root_walk m.bytes []) k b' _ (r.4 sz [] new) in
+              let f = ok_fine n.on (root_walk size x m.bytes []) k b' _ (r.4 sz [] new) in
               let tree = tree_at m.bytes (x.levels - 1) x.root in
               let pages = met_pages m.bytes size (x.levels - 1) x.root k f.1.0 f.1.1 in (
                 tree,
@@ -112,6 +113,23 @@ module _ (P : History → Type 0) (m : Medium) (Q : History → Type 0) (n : Med
               ),
         );
   }
+
+-- The same of a reader that is lent to the walk: e is what it is when it comes back, and d what the walk left.
+module _ {D : Type 0} (past : D → History → Type 0) (medium : D → Medium) (P : History → Type 0) (m : Medium) (d e : D) (same : e ≡ d)
+    (size : ℕ) (x : Meta) (b b' : List Bool) (new : MarksAre b []) where
+  abbrev Ends : Result Marks PageFault → D → Type 0
+  Ends r o = Looks P m (past o) (medium o) (λ t. size ≤ m.size → WalksTree m size x (medium o).on t r)
+
+  pub tree_broken : (f : PageFault) → Walks P m (past d) (medium d) size b b' (root_walk size x) (Err f) → Ends (Err f) e
+  tree_broken f w = subst (Ends (Err f)) (sym same) (broken P m (past d) (medium d) size x b b' new f w)
+
+  pub tree_miscounted : (k : ℕ) → (k ≡ x.pairs → ⊥) → Walks P m (past d) (medium d) size b b' (root_walk size x) (Ok k)
+      → Ends (Err (Damaged (damage x.root PairCount))) e
+  tree_miscounted k ne w = subst (Ends (Err (Damaged (damage x.root PairCount)))) (sym same) (miscounted P m (past d) (medium d) size x b b' new k ne w)
+
+  pub tree_walked : (k : ℕ) (marks : Marks) → marks.marked ≡ b' → k ≡ x.pairs → Walks P m (past d) (medium d) size b b' (root_walk size x) (Ok k)
+      → Ends (Ok marks) e
+  tree_walked k marks is c w = subst (Ends (Ok marks)) (sym same) (walked_lem P m (past d) (medium d) size x b b' new k marks is c w)
 
 -- the recovery: the newest meta, then its tree
 pub room_tells : (size : ℕ) → fits_pages size ≡ true → (16 ≤ size) × (size ≤ 1024)

@@ -5,12 +5,10 @@ use Rattle.device.specs.History.{History}
 use Rattle.device.specs.Looking.{Looks, pages_read}
 use Rattle.device.specs.declared.fault.DeviceFault.TheVariants.{Off}
 use Rattle.page.specs.Loads.{OneRead}
-use Rattle.page.specs.declared.leaf.LeafPage.{LeafPage}
-use Rattle.page.specs.declared.branch.BranchPage.{BranchPage}
 use Rattle.page.specs.declared.fault.Cause.{Cause}
 use Rattle.page.specs.declared.fault.PageFault.{PageFault}
 use Rattle.page.specs.declared.fault.PageFault.TheVariants.{Device, Damaged}
-use Rattle.paged.specs.Walk.{damage, Walked, fault, fine}
+use Rattle.paged.specs.Walk.{Walked, fault, fine}
 use Rattle.walk.specs.Marking.{MarksAre, marked}
 
 -- A page of the device, read and tested: its first fault is given by `fault_of`.
@@ -40,13 +38,3 @@ pub record Walks (P : History → Type 0) (m : Medium) (Q : History → Type 0) 
   pub room : IfOk a (λ k. k + 248 * marked b ≤ 248 * marked b')
   pub looks : Looks P m Q n
       (λ t. size ≤ m.size → (seen : List ℕ) → MarksAre b seen → Told b' (pages_read t ++ seen) n.on (w m.bytes seen) a)
-
--- the bytes of pages
-abbrev pub leaf_bytes : LeafPage → List ℕ
-leaf_bytes p = p.bytes
-
-abbrev pub branch_bytes : BranchPage → List ℕ
-branch_bytes p = p.bytes
-
-abbrev pub damaged_by : ℕ → Cause → PageFault
-damaged_by p c = Damaged (damage p c)

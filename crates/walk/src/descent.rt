@@ -7,37 +7,41 @@ ghost use Rattle.walk.specs.Walking.{Walks};
 use crate::marks::Marks;
 use crate::spot::Spot;
 use device::Reader;
-use page::{Cause, PageFault};
+use page::{BranchPage, Cause, LeafPage, PageFault};
 
-// Walks the tree from a page on, with `height` levels of branches down to its leaves, and counts its pairs. Each page
-// is read once, tested, and marked; then come its children from the left.
-pub(crate) fn walk_from<R: Reader>(
-    reader: &mut R,
-    met: &mut Marks,
-    size: u32,
-    at: Spot<'_>,
-    height: u8,
-    is_root: bool,
-) -> Result<u32, PageFault>
-    requires small { size ≤ 1024 }
-    requires inside { at.page < size }
-    requires unmet { slice_index_or met.old.marked at.page false ≡ false }
-    ensures { Walks (R.Reader.past reader.old) (R.Reader.medium reader.old) (R.Reader.past reader.new) (R.Reader.medium reader.new) size met.old.marked met.new.marked (λ pages. walk pages size is_root height (low_of at.entry) (high_of at.entry) at.entry.page) result }
-{
-    met.mark(at.page);
-    if height == 0 {
-        let leaf = at.leaf(reader, is_root)?;
-        return Ok(leaf.len() as u32);
-    }
-    let branch = at.branch(reader, is_root)?;
-    let mut pairs = 0;
-    let mut i = 0;
-    while let Some(child) = at.child(&branch, i) {
-        if !met.admits(size, child.page) {
-            return Err(at.damaged(Cause::Child));
+// A walk over the pages of a reader, of which there are `size`, with marks on those met so far.
+#[derive(Drop)]
+pub(crate) struct Walk<'r, R> {
+    pub(crate) reader: &'r mut R,
+    pub(crate) size: u32,
+    pub(crate) met: Marks,
+}
+
+impl<R: Reader> Walk<'_, R> {
+    // Walks the tree from a page on, with `height` levels of branches down to its leaves, and counts its pairs. Each
+    // page is read once, tested, and marked; then come its children from the left.
+    pub(crate) fn walk_from(&mut self, at: Spot<'_>, height: u8) -> Result<u32, PageFault>
+        requires small { self.old.size ≤ 1024 }
+        requires inside { at.page < self.old.size }
+        requires unmet { slice_index_or self.old.met.marked at.page false ≡ false }
+        ensures same_reader { self.new.reader.ghost_name ≡ self.old.reader.ghost_name }
+        ensures same_size { self.new.size ≡ self.old.size }
+        ensures walks { Walks (R.Reader.past self.old.reader.now) (R.Reader.medium self.old.reader.now) (R.Reader.past self.new.reader.now) (R.Reader.medium self.new.reader.now) self.old.size self.old.met.marked self.new.met.marked (λ pages. walk pages self.old.size at.entry.is_root height (low_of at.entry) (high_of at.entry) at.entry.page) result }
+    {
+        self.met.mark(at.page);
+        if height == 0 {
+            let leaf: LeafPage = at.load(self.reader)?;
+            return Ok(leaf.len() as u32);
         }
-        pairs += walk_from(reader, met, size, child, height - 1, false)?;
-        i += 1;
+        let branch: BranchPage = at.load(self.reader)?;
+        let mut pairs = 0;
+        for i in 0..=branch.len() {
+            let child = at.child(&branch, i);
+            if !self.met.admits(self.size, child.page) {
+                return Err(at.damage(Cause::Child).into());
+            }
+            pairs += self.walk_from(child, height - 1)?;
+        }
+        Ok(pairs)
     }
-    Ok(pairs)
 }

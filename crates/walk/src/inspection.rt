@@ -1,3 +1,6 @@
+ghost use Rattle.std.specs.Prelude.{◌≡◌};
+ghost use Rattle.walk.specs.Checking.{summary_of};
+
 use crate::marks::Marks;
 use meta::Meta;
 
@@ -19,4 +22,16 @@ pub struct Summary {
     pub commit: u64,
     pub pairs: u32,
     pub levels: u8,
+}
+
+impl From<Meta> for Summary {
+    ghost from_gives = { λ m r. r ≡ summary_of m };
+
+    fn from(meta: Meta) -> Summary {
+        Summary {
+            commit: meta.commit,
+            pairs: meta.pairs,
+            levels: meta.levels,
+        }
+    }
 }

@@ -2,12 +2,12 @@ ghost use Rattle.std.specs.Prelude.{◌≡◌, ◌≤◌, true, false, [], lengt
 ghost use Rattle.walk.specs.Marking.{MarksAre, free};
 
 // The most pages that a device may have.
-const MOST_PAGES: usize = 1024;
+pub(crate) const MOST_PAGES: u32 = 1024;
 
 // Marks on pages.
 #[derive(Clone, Copy)]
 pub struct Marks {
-    marked: [bool; MOST_PAGES],
+    marked: [bool; MOST_PAGES as usize],
     ghost long: { length marked ≡ 1024 },
 }
 
@@ -17,7 +17,7 @@ impl Marks {
         ensures { MarksAre result.marked [] }
     {
         Marks {
-            marked: [false; MOST_PAGES],
+            marked: [false; MOST_PAGES as usize],
         }
     }
 
@@ -25,14 +25,15 @@ impl Marks {
     pub fn has(&self, page: u32) -> bool
         ensures { result ≡ slice_index_or self.now.marked page false }
     {
-        (page as usize) < MOST_PAGES && self.marked[page as usize]
+        self.marked.get(page as usize).is_some_and(|marked| *marked)
     }
 
     // Marks the page, if there is such a page.
     pub fn mark(&mut self, page: u32)
         ensures { self.new.marked ≡ slice_set self.old.marked page true }
     {
-        if (page as usize) < MOST_PAGES {
+        // by its index: of a field that a ghost field speaks of, what `get_mut` lends is not known to come back
+        if page < MOST_PAGES {
             self.marked[page as usize] = true;
         }
     }
@@ -41,6 +42,6 @@ impl Marks {
     pub(crate) fn admits(&self, size: u32, page: u32) -> bool
         ensures { result ≡ free size self.now.marked page }
     {
-        page >= 2 && page < size && !self.has(page)
+        (2..size).contains(&page) && !self.has(page)
     }
 }

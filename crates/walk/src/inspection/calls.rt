@@ -3,25 +3,23 @@ ghost use Rattle.device.specs.Looking.{Looks};
 ghost use Rattle.meta.specs.Laws.{Fits};
 ghost use Rattle.walk.specs.Checking.{Newest, Rooted, WalksTree, Recovers, fits_pages, found_on, summed};
 
-use crate::descent::walk_from;
+use crate::descent::Walk;
 use crate::inspection::{Recovered, Summary};
-use crate::marks::Marks;
+use crate::marks::{MOST_PAGES, Marks};
 use crate::spot::Spot;
 use device::{DeviceFault, PAGE_SIZE, Reader};
 use faults::StoreFault;
 use meta::{Meta, newer};
 use page::{Cause, PageFault};
 
-// How many pages a device may have.
+// The fewest pages that a device may have.
 const FEWEST_PAGES: u32 = 16;
-
-const MOST_PAGES: u32 = 1024;
 
 // Whether a device may have so many pages.
 pub fn has_room(pages: u32) -> bool
     ensures { result ≡ fits_pages pages }
 {
-    pages >= FEWEST_PAGES && pages <= MOST_PAGES
+    (FEWEST_PAGES..=MOST_PAGES).contains(&pages)
 }
 
 // Of the meta pages that pass their test, the one with the larger commit number.
@@ -48,13 +46,18 @@ fn walk_tree<R: Reader>(reader: &mut R, meta: &Meta, size: u32) -> Result<Marks,
         page: meta.root,
         low: &[],
         high: None,
+        is_root: true,
     };
-    let mut met = Marks::new();
-    let pairs = walk_from(reader, &mut met, size, root, meta.levels - 1, true)?;
+    let mut walk = Walk {
+        reader,
+        size,
+        met: Marks::new(),
+    };
+    let pairs = walk.walk_from(root, meta.levels - 1)?;
     if pairs != meta.pairs {
-        return Err(root.damaged(Cause::PairCount));
+        return Err(root.damage(Cause::PairCount).into());
     }
-    Ok(met)
+    Ok(walk.met)
 }
 
 // What a device holds: its newest meta, and marks on the pages of the tree that this names, which was walked. Refused
@@ -80,9 +83,5 @@ pub fn check<R: Reader>(reader: &mut R) -> Result<Summary, StoreFault>
     ensures { Looks (R.Reader.past reader.old) (R.Reader.medium reader.old) (R.Reader.past reader.new) (R.Reader.medium reader.new) (λ _. result ≡ summed (found_on (R.Reader.medium reader.old).bytes (R.Reader.medium reader.old).size (R.Reader.medium reader.new).on)) }
 {
     let found = recover(reader)?;
-    Ok(Summary {
-        commit: found.meta.commit,
-        pairs: found.meta.pairs,
-        levels: found.meta.levels,
-    })
+    Ok(found.meta.into())
 }
