@@ -1,15 +1,14 @@
 -- Each call of a client, from what the store promises of it.
 use Rattle.std.proofs.Common.{◌≡◌, ℕ, List, Ok, Err, MatchResult, IsOkAnd, vec_items, Result, Option, Bool, Vec, sym, refl, ap, subst}
-use Rattle.std.specs.List.{AllByRecursion}
 use Rattle.std.specs.declared.alloc.Global.{Global}
 use Rattle.cuts.specs.Nodes.{Pair}
 use Rattle.device.specs.Medium.{Medium}
 use Rattle.device.specs.History.{History, Happens, power_returned}
-use Rattle.device.specs.Looking.{IsRead, Looks}
+use Rattle.device.specs.Looking.{Looks}
 use Rattle.faults.specs.declared.fault.StoreFault.{StoreFault}
 use Rattle.store.specs.Acting.{Acts}
 use Rattle.store.specs.Calls.{ObeysIfSound}
-use Rattle.store.specs.Client.{Does, Steps, answered}
+use Rattle.store.specs.Client.{Does, ReadsMap, Steps, answered}
 use Rattle.store.specs.Model.{Model, Stepped}
 use Rattle.store.specs.Reading.{HandsIfSound}
 use Rattle.store.specs.Snapshots.{Snapshot, snap}
@@ -44,13 +43,12 @@ module _ (P : History → Type 0) (m : Medium) (Q : History → Type 0) (n : Med
 
   -- a read of the map
   pub read_acts : (l : Vec ℕ Global → Call) (fits : List ℕ → Bool) (want : List ℕ → List Pair → Option Pair)
-      → ((v : Vec ℕ Global) (t : History) (r : Result ℕ StoreFault) (buffer : List ℕ) → a ≡ answered Cell r → AllByRecursion IsRead t
-      → HandsIfSound (snap m s b) (snap n z c) (fits (vec_items v)) (want (vec_items v)) r buffer → Does (l v) (snap m s b) (snap n z c) a t)
+      → ((v : Vec ℕ Global) (t : History) → ReadsMap (fits (vec_items v)) (want (vec_items v)) (snap m s b) (snap n z c) a t → Does (l v) (snap m s b) (snap n z c) a t)
       → (v : Vec ℕ Global) (key : List ℕ) (r : Result ℕ StoreFault) (buffer : List ℕ) → k ≡ l v → a ≡ answered Cell r → key ≡ vec_items v
       → Looks P m Q n (λ _. HandsIfSound (snap m s b) (snap n z c) (fits key) (want key) r buffer) → ActsAs
   read_acts l fits want is v key r buffer e q w looks =
       subst (λ (k : Call). Acts P m Q n (λ t. Does k (snap m s b) (snap n z c) a t)) (sym e)
-      (acts_looks _ _ looks (λ t _ reads h. is v t r buffer q reads (subst (λ y. HandsIfSound (snap m s b) (snap n z c) (fits y) (want y) r buffer) w h)))
+      (acts_looks _ _ looks (λ t _ reads h. is v t (r, buffer, q, reads, subst (λ y. HandsIfSound (snap m s b) (snap n z c) (fits y) (want y) r buffer) w h)))
 
   pub return_acts : k ≡ PowerReturn → a ≡ Ok Done → z ≡ Shut → Happens P m power_returned Q n → ActsAs
   return_acts e q w h =

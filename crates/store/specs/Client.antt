@@ -1,9 +1,10 @@
 -- The calls of a client, and what each of them did.
-use Rattle.std.specs.Prelude.{◌≡◌, ℕ, List, [], ◌∷◌, Ok, Err, vec_items, Result}
+use Rattle.std.specs.Prelude.{◌≡◌, ℕ, Bool, List, [], ◌∷◌, Ok, Err, vec_items, Option, Result}
 use Rattle.std.specs.List.{AllByRecursion}
 use Rattle.device.specs.Calls.{Returns}
 use Rattle.device.specs.History.{History, step, power_returned}
 use Rattle.device.specs.Looking.{IsRead}
+use Rattle.cuts.specs.Nodes.{Pair}
 use Rattle.tree.specs.Maps.{first_above}
 use Rattle.faults.specs.declared.fault.StoreFault.{StoreFault}
 use Rattle.search.specs.Finding.{pair_with}
@@ -27,16 +28,16 @@ answered f (Err e) = Err e
 abbrev pub Steps : (Model → Stepped Unit) → Snapshot → Snapshot → Result Answer StoreFault → History → Type 0
 Steps model s z a t = (r : Result Unit StoreFault) × (a ≡ answered (λ _. Done) r) × (t ≡ []) × (z.medium ≡ s.medium) × ObeysIfSound s z model r
 
+-- a call that reads the map, where `fits` says whether the key's length does
+abbrev pub ReadsMap : (fits : Bool) → (List Pair → Option Pair) → Snapshot → Snapshot → Result Answer StoreFault → History → Type 0
+ReadsMap fits want s z a t = (r : Result ℕ StoreFault) × (buffer : List ℕ) × (a ≡ answered Cell r) × AllByRecursion IsRead t × HandsIfSound s z fits want r buffer
+
 -- One call of a client on the store s, by the calls t of the device. The store is then z, and has answered a.
 abbrev pub Does : Call → Snapshot → Snapshot → Result Answer StoreFault → History → Type 0
 Does Open s z a t = (r : Result ℕ StoreFault) × (a ≡ answered Number r) × Opens s z t r
 Does Begin s z a t = Steps begins s z a t
 Does Abort s z a t = Steps aborts s z a t
-Does (Get k) s z a t =
-    (r : Result ℕ StoreFault) × (buffer : List ℕ) × (a ≡ answered Cell r) × AllByRecursion IsRead t
-    × HandsIfSound s z (is_key (vec_items k)) (pair_with (vec_items k)) r buffer
-Does (After k) s z a t =
-    (r : Result ℕ StoreFault) × (buffer : List ℕ) × (a ≡ answered Cell r) × AllByRecursion IsRead t
-    × HandsIfSound s z (is_short (vec_items k)) (first_above (vec_items k)) r buffer
+Does (Get k) s z a t = ReadsMap (is_key (vec_items k)) (pair_with (vec_items k)) s z a t
+Does (After k) s z a t = ReadsMap (is_short (vec_items k)) (first_above (vec_items k)) s z a t
 Does Commit s z a t = (r : Result ℕ StoreFault) × (a ≡ answered Number r) × Commits s z t r
 Does PowerReturn s z a t = (a ≡ Ok Done) × (z.state ≡ Shut) × Returns s.medium z.medium × (t ≡ step s.medium power_returned z.medium ∷ [])

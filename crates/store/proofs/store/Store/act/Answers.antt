@@ -20,11 +20,11 @@ returns-in_ok-begin-in-Begin g c =
 
 pub returns-in-Get : goal.returns-in-Get
 returns-in-Get g c =
-    read_acts _ _ _ _ _ _ _ _ _ _ Get is_key pair_with (λ v t r b q l h. (r, b, q, l, h)) _ _ _ _ c.in-Get.is (mapped _ _ _ c.map-in-Get.ensures.cases) c.deref.ensures.value c.get.ensures.model
+    read_acts _ _ _ _ _ _ _ _ _ _ Get is_key pair_with (λ v t f. f) _ _ _ _ c.in-Get.is (mapped _ _ _ c.map-in-Get.ensures.cases) c.deref.ensures.value c.get.ensures.model
 
 pub returns-in-After : goal.returns-in-After
 returns-in-After g c =
-    read_acts _ _ _ _ _ _ _ _ _ _ After is_short first_above (λ v t r b q l h. (r, b, q, l, h)) _ _ _ _ c.in-After.is (mapped _ _ _ c.map-in-After.ensures.cases) c.deref-in-After.ensures.value c.after.ensures.model
+    read_acts _ _ _ _ _ _ _ _ _ _ After is_short first_above (λ v t f. f) _ _ _ _ c.in-After.is (mapped _ _ _ c.map-in-After.ensures.cases) c.deref-in-After.ensures.value c.after.ensures.model
 
 pub returns-in-PowerReturn : goal.returns-in-PowerReturn
 returns-in-PowerReturn g c = return_acts _ _ _ _ _ _ _ _ _ _ c.in-PowerReturn.is refl c.power_return.ensures.shut c.power_return.ensures.device
