@@ -1,5 +1,6 @@
 -- What get and after hand out, by what their search found.
-use Rattle.std.proofs.Common.{◌≡◌, ℕ, ◌<◌, Bool, true, false, List, Some, None, Ok, Err, Option, Result, refl, ap, ◌∙◌, subst}
+use Rattle.std.proofs.Common.{◌≡◌, ℕ, ◌<◌, Bool, true, false, List, Some, None, Ok, Err, Option, Result, sym, refl, ap, ◌∙◌, subst}
+use Rattle.std.specs.Result.{result_ok}
 use Rattle.std.proofs.ByRecursion.{All-weaker}
 use Rattle.device.specs.Medium.{Medium, zeros}
 use Rattle.device.specs.Calls.{Keeps}
@@ -38,9 +39,7 @@ pub model_keep : (m n : Medium) (s : State) → Keeps m n → model_of n.bytes s
 model_keep m n s k = ap (λ f. model_of f s) (same_pages k)
 
 version_is : (s : State) (x : Meta) → Ok x ≡ version_in s → version_of s ≡ Some x
-version_is Shut x e = cc
-version_is (Idle y) x e = cc
-version_is (InTransaction y) x e = cc
+version_is s x e = ap result_ok (sym e)
 
 version_stands : (m : Medium) (s : State) (b : Held) (x : Meta) → version_of s ≡ Some x → Sound m s b → (marks : List Bool) × Stands m x marks
 version_stands m Shut b x e h = cc

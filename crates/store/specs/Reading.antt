@@ -1,6 +1,7 @@
 -- What a read of the map hands out.
 use Rattle.std.specs.Prelude.{◌≡◌, ℕ, ◌<◌, Bool, ◌&&◌, List, length, Some, None, Ok, Err, Option, Result, nat_le}
 use Rattle.std.specs.List.{ContainsAt}
+use Rattle.std.specs.Result.{result_ok}
 use denote.Ref.{MutBor}
 use Rattle.device.specs.Medium.{zeros}
 use Rattle.device.specs.Looking.{Looks}
@@ -18,16 +19,15 @@ use Rattle.search.specs.Finding.{pair_at, leaf_pages, Searches}
 use Rattle.search.specs.declared.Place.{Place}
 use Rattle.store.specs.Model.{Model, Stepped, reads}
 use Rattle.store.specs.Snapshots.{Snapshot, snapshot, IsSound, model_at}
+use Rattle.store.specs.States.{version_in}
 use Rattle.store.specs.Versions.{height_of, tree_of}
 use Rattle.store.specs.declared.state.State.{State}
-use Rattle.store.specs.declared.state.State.TheVariants.{Shut, Idle, InTransaction}
+use Rattle.store.specs.declared.state.State.TheVariants.{Shut}
 use Rattle.store.specs.declared.store.Store.{Store}
 
 -- the version that is read: the working one in a transaction, else the committed one
 abbrev pub version_of : State → Option Meta
-version_of Shut = None
-version_of (Idle x) = Some x
-version_of (InTransaction x) = Some x.working
+version_of s = result_ok (version_in s)
 
 -- a key of 1 to 64 bytes; a key of at most 64 bytes
 abbrev pub is_key : List ℕ → Bool
