@@ -1,7 +1,8 @@
 -- What is kept from call to call: the record's commit is durable and whole, and the other meta page holds an older one, or
 -- the one in doubt, which is then whole, too.
-use Rattle.std.proofs.Common.{◌≡◌, ℕ, ◌+◌, ◌%◌, ◌<◌, ◌≤◌, Bool, true, false, cond, ltb, ◌⊎◌, List, [], ◌∷◌, Some, None, Option, Result, sym, refl, ap, ◌∙◌, subst, inl, inr, ⊎_elim, arith}
+use Rattle.std.proofs.Common.{◌≡◌, ℕ, ◌+◌, ◌%◌, ◌<◌, ◌≤◌, Bool, true, false, cond, ltb, ◌⊎◌, List, ◌∷◌, Some, None, Option, Result, sym, refl, ap, ◌∙◌, subst, inl, inr, ⊎_elim, arith}
 use Rattle.std.specs.List.{AllByRecursion}
+use Rattle.std.proofs.ByRecursion.{All-weaker}
 use Rattle.std.proofs.lemmas.Bool.Decides.{nat_tests}
 use Rattle.std.proofs.lemmas.Bool.{cases_Bool, cases_eq, eq-eqb, both_ways}
 use Rattle.device.specs.Medium.{Medium}
@@ -20,7 +21,6 @@ use Rattle.tree.proofs.Leaves.{all_both}
 use Rattle.walk.specs.Checking.{fits_pages, newest_in}
 use Rattle.store.specs.Versions.{height_of, tree_of, pages_held, pairs_held}
 use Rattle.store.proofs.Kept.{tree_same, sound_same, meta_reads}
-use Rattle.store.proofs.Found.{bad}
 use Rattle.recovery.specs.Premise.{MakesUpNone}
 use Rattle.recovery.specs.Record.{Record}
 
@@ -56,7 +56,7 @@ pub whole_holds : (m n : Medium) (x : Meta) → Holds m n → Whole m x → Kept
 whole_holds m n x h w =
     let both : AllByRecursion (λ p. (n.bytes p ≡ m.bytes p) × (n.volatile p ≡ false)) (pages_held m.bytes x) =
     all_both (Inside m.size) (λ p. m.volatile p ≡ false) (λ p. (n.bytes p ≡ m.bytes p) × (n.volatile p ≡ false)) (λ p i d. h.pages p i.0 d) (pages_held m.bytes x) w.tree.inside w.firm in
-    let same : AllByRecursion (λ p. n.bytes p ≡ m.bytes p) (pages_held m.bytes x) = firsts (pages_held m.bytes x) both in
+    let same : AllByRecursion (λ p. n.bytes p ≡ m.bytes p) (pages_held m.bytes x) = All-weaker _ _ (λ _ i. i.0) (pages_held m.bytes x) both in
     let t = tree_same m.bytes n.bytes m.size x.pairs x same w.tree in
     record {
       whole = record {
@@ -65,18 +65,10 @@ whole_holds m n x h w =
         tree =
             subst (λ z. SoundOn n.bytes z (height_of x) x.root x.pairs (tree_of n.bytes x)) (sym h.size)
             (subst (λ v. SoundOn n.bytes m.size (height_of x) x.root x.pairs v) (sym t) (sound_same m.bytes n.bytes m.size (height_of x) x.root x.pairs (tree_of m.bytes x) same w.tree));
-        firm = subst (λ v. AllByRecursion (λ p. n.volatile p ≡ false) (pages_of (height_of x) v)) (sym t) (seconds (pages_held m.bytes x) both);
+        firm = subst (λ v. AllByRecursion (λ p. n.volatile p ≡ false) (pages_of (height_of x) v)) (sym t) (All-weaker _ _ (λ _ i. i.1) (pages_held m.bytes x) both);
       };
       pairs = ap (λ v. pairs_on (height_of x) v) t;
     }
-  where
-    firsts : (ps : List ℕ) → AllByRecursion (λ p. (n.bytes p ≡ m.bytes p) × (n.volatile p ≡ false)) ps → AllByRecursion (λ p. n.bytes p ≡ m.bytes p) ps
-    firsts [] a = tt
-    firsts (p ∷ ps) a = (a.0.0, firsts ps a.1)
-
-    seconds : (ps : List ℕ) → AllByRecursion (λ p. (n.bytes p ≡ m.bytes p) × (n.volatile p ≡ false)) ps → AllByRecursion (λ p. n.volatile p ≡ false) ps
-    seconds [] a = tt
-    seconds (p ∷ ps) a = (a.0.1, seconds ps a.1)
 
 -- the page of a number, and the other one
 abbrev pub mine : Meta → ℕ
@@ -190,11 +182,11 @@ doubting base h k k' x m d none n c i s = record {
   now = older _ s.now;
   was = older _ s.was;
   wrote = λ v. older _ (s.wrote v);
-  calm = λ z. let q = none in bad cc;
+  calm = λ z. let q = none in cc;
 }
   where
     older : (b : List ℕ) → Mild k x m b → Mild k' x m b
-    older b f y e = ⊎_elim (λ l. inl l) (λ z. let a = z.in_doubt_lem in let q = none in bad cc) (f y e)
+    older b f y e = ⊎_elim (λ l. inl l) (λ z. let a = z.in_doubt_lem in let q = none in cc) (f y e)
 
 -- the write of its meta page, refused or not
 pub write_safe : (base : Medium) (h : History) (k : Record) (x w : Meta) (m n : Medium) (r : Result Unit DeviceFault) (d : List Pair)
@@ -216,7 +208,7 @@ write_safe base h k x w m n r d keeps put next whole pairs doubt s =
       now = now;
       was = mild_cond k x n (n.volatile (other x)) _ _ (mild_holds k x m n _ hold s.was) now;
       wrote = λ _. mild_as k x n _ _ (rw (eq-eqb (other x) (other x) refl)) mild;
-      calm = λ z. let q = doubt in bad cc;
+      calm = λ z. let q = doubt in cc;
     }
   where
     itself : Mild k x n (meta_page w)

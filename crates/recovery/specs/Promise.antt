@@ -1,9 +1,10 @@
 -- The promise on power loss, over whole runs of calls.
-use Rattle.std.specs.Prelude.{◌≡◌, ℕ, ◌+◌, ◌-◌, ◌≤◌, true, ◌⊎◌, List, [], ◌∷◌, ◌++◌, is_some, Some, None, Ok, Option}
+use Rattle.std.specs.Prelude.{◌≡◌, ℕ, ◌+◌, ◌-◌, ◌≤◌, true, ◌⊎◌, List, [], ◌∷◌, ◌++◌, is_some, Some, None, Ok, Option, Result}
 use Rattle.device.specs.Medium.{Medium}
 use Rattle.device.specs.History.{History, Leads}
 use Rattle.cuts.specs.Nodes.{Pair}
 use Rattle.tree.specs.Maps.{Rising}
+use Rattle.faults.specs.declared.fault.StoreFault.{StoreFault}
 use Rattle.paged.specs.Paged.{pairs_on}
 use Rattle.walk.specs.Checking.{Holding, found_on}
 use Rattle.store.specs.Formatting.{Fresh}
@@ -26,9 +27,9 @@ pub record Finds (n : Medium) (c : ℕ) (ps : List Pair) : Type 0 where
 
 -- An opening outside a transaction that met no refusal for want of power is accepted. It answers the number of the record,
 -- or the next one, and that only if a commit was interrupted; and it finds the map that the record then has as committed.
-abbrev pub OpensWell : Record → Answer → Medium → Type 0
+abbrev pub OpensWell : Record → Result Answer StoreFault → Medium → Type 0
 OpensWell k a n = (c : ℕ)
-    × (a ≡ Number c)
+    × (a ≡ Ok (Number c))
     × ((c ≡ k.number) ⊎ ((c ≡ k.number + 1) × (is_some k.in_doubt ≡ true)))
     × Finds n c (recorded k Open a).committed
 
@@ -37,7 +38,7 @@ Outside None P = P
 Outside (Some w) P = Unit {0}
 
 -- what is promised of a call that answered a, where k was the record before it, and n the medium after it
-abbrev pub Claim : Record → Call → Answer → Medium → Type 0
+abbrev pub Claim : Record → Call → Result Answer StoreFault → Medium → Type 0
 Claim k Open a n = Outside k.working (n.on ≡ true → OpensWell k a n)
 Claim k Begin a n = Unit {0}
 Claim k (Get key) a n = Unit {0}
@@ -52,7 +53,7 @@ pub record Segment : Type 0 where
   pub after : Medium
 
 -- of each call in turn
-abbrev pub Claims : Record → List Call → List Answer → List Segment → Type 0
+abbrev pub Claims : Record → List Call → List (Result Answer StoreFault) → List Segment → Type 0
 Claims k [] [] [] = Unit {0}
 Claims k [] [] (s ∷ ss) = ⊥
 Claims k [] (a ∷ bs) ss = ⊥
@@ -71,7 +72,7 @@ calls_of (s ∷ ss) = calls_of ss ++ s.calls
 
 -- Whichever history led to the device, the calls that formatted it, and then those of each call of the script, lead on
 -- from there. If no power return among these makes up a meta page, each answer is as promised.
-abbrev pub Keeps : (P : History → Type 0) → Medium → (Q : History → Type 0) → Medium → List Call → List Answer → Type 0
+abbrev pub Keeps : (P : History → Type 0) → Medium → (Q : History → Type 0) → Medium → List Call → List (Result Answer StoreFault) → Type 0
 Keeps P m Q n script answers = (h : History) → P h
     → (t : History) × (m₀ : Medium) × (ss : List Segment)
     × Q (calls_of ss ++ (t ++ h)) × Leads m t m₀ × Fresh m₀ × Passes m₀ ss n

@@ -1,9 +1,10 @@
 -- The client's record: what a client knows of its store, from its own calls and their answers alone.
-use Rattle.std.specs.Prelude.{ℕ, ◌+◌, Bool, false, cond, List, [], Some, None, Option, ◌==◌}
+use Rattle.std.specs.Prelude.{ℕ, ◌+◌, Bool, false, cond, List, [], Some, None, Ok, Err, Option, Result, ◌==◌}
 use Rattle.cuts.specs.Nodes.{Pair}
 use Rattle.faults.specs.Numbers.{number as fault_number}
+use Rattle.faults.specs.declared.fault.StoreFault.{StoreFault}
 use Rattle.store.specs.declared.client.Answer.{Answer}
-use Rattle.store.specs.declared.client.Answer.TheVariants.{Number, Cell, Done, Refused}
+use Rattle.store.specs.declared.client.Answer.TheVariants.{Number, Cell, Done}
 use Rattle.store.specs.declared.client.Call.{Call}
 use Rattle.store.specs.declared.client.Call.TheVariants.{Open, Begin, Get, After, Abort, Commit, PowerReturn}
 
@@ -29,26 +30,24 @@ abbrev pub no_doubt : Record → Record
 no_doubt k = record_of k.number k.committed k.working None
 
 -- any answer that the device is off leaves no working map
-abbrev pub answers_off : Answer → Bool
-answers_off (Refused f) = fault_number f == 10
-answers_off (Number c) = false
-answers_off (Cell c) = false
-answers_off Done = false
+abbrev pub answers_off : Result Answer StoreFault → Bool
+answers_off (Ok a) = false
+answers_off (Err f) = fault_number f == 10
 
-abbrev pub unless_off : Answer → Record → Record
+abbrev pub unless_off : Result Answer StoreFault → Record → Record
 unless_off a k = cond (answers_off a) (no_working k) k
 
-abbrev pub begun : Record → Answer → Record
-begun k Done = record_of k.number k.committed (Some k.committed) k.in_doubt
-begun k (Refused f) = unless_off (Refused f) k
-begun k (Number c) = k
-begun k (Cell c) = k
+abbrev pub begun : Record → Result Answer StoreFault → Record
+begun k (Ok Done) = record_of k.number k.committed (Some k.committed) k.in_doubt
+begun k (Ok (Number c)) = k
+begun k (Ok (Cell c)) = k
+begun k (Err f) = unless_off (Err f) k
 
-abbrev pub aborted : Record → Answer → Record
-aborted k Done = no_working k
-aborted k (Refused f) = unless_off (Refused f) k
-aborted k (Number c) = k
-aborted k (Cell c) = k
+abbrev pub aborted : Record → Result Answer StoreFault → Record
+aborted k (Ok Done) = no_working k
+aborted k (Ok (Number c)) = k
+aborted k (Ok (Cell c)) = k
+aborted k (Err f) = unless_off (Err f) k
 
 -- an accepted commit makes the working map the committed one; an interrupted one puts it in doubt
 abbrev pub now_committed : Record → Option (List Pair) → Record
@@ -59,25 +58,25 @@ abbrev pub now_in_doubt : Record → Option (List Pair) → Record
 now_in_doubt k (Some w) = record_of k.number k.committed None (Some w)
 now_in_doubt k None = no_working k
 
-abbrev pub committed_by : Record → Answer → Record
-committed_by k (Number c) = now_committed k k.working
-committed_by k (Refused f) = cond (answers_off (Refused f)) (now_in_doubt k k.working) (no_working k)
-committed_by k (Cell c) = no_working k
-committed_by k Done = no_working k
+abbrev pub committed_by : Record → Result Answer StoreFault → Record
+committed_by k (Ok (Number c)) = now_committed k k.working
+committed_by k (Ok (Cell c)) = no_working k
+committed_by k (Ok Done) = no_working k
+committed_by k (Err f) = cond (answers_off (Err f)) (now_in_doubt k k.working) (no_working k)
 
 -- an accepted opening that answers the next number has found the map in doubt; after any, none is in doubt
 abbrev pub now_found : Record → Option (List Pair) → Record
 now_found k (Some d) = record_of (k.number + 1) d k.working None
 now_found k None = no_doubt k
 
-abbrev pub opened_by : Record → Answer → Record
-opened_by k (Number c) = cond (c == k.number + 1) (now_found k k.in_doubt) (no_doubt k)
-opened_by k (Refused f) = unless_off (Refused f) k
-opened_by k (Cell c) = k
-opened_by k Done = k
+abbrev pub opened_by : Record → Result Answer StoreFault → Record
+opened_by k (Ok (Number c)) = cond (c == k.number + 1) (now_found k k.in_doubt) (no_doubt k)
+opened_by k (Ok (Cell c)) = k
+opened_by k (Ok Done) = k
+opened_by k (Err f) = unless_off (Err f) k
 
 -- the record after a call and its answer
-abbrev pub recorded : Record → Call → Answer → Record
+abbrev pub recorded : Record → Call → Result Answer StoreFault → Record
 recorded k Open a = opened_by k a
 recorded k Begin a = begun k a
 recorded k (Get key) a = unless_off a k

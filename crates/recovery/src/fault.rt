@@ -1,20 +1,27 @@
+ghost use Rattle.std.specs.Prelude.{◌≡◌};
+ghost use Rattle.recovery.specs.declared.fault.RunFault.TheVariants.{Format, Memory};
+
 use faults::StoreFault;
 use std::alloc::AllocError;
 
 // Why a run did not take place: its store could not be formatted, or memory is wanting.
-#[derive(Drop, Debug)]
+#[derive(Clone, Copy, PartialEq, Eq, Debug)]
 pub enum RunFault {
     Format(StoreFault),
     Memory,
 }
 
 impl From<StoreFault> for RunFault {
+    ghost from_gives = { λ f r. r ≡ Format f };
+
     fn from(fault: StoreFault) -> RunFault {
         RunFault::Format(fault)
     }
 }
 
 impl From<AllocError> for RunFault {
+    ghost from_gives = { λ f r. r ≡ Memory };
+
     fn from(_fault: AllocError) -> RunFault {
         RunFault::Memory
     }

@@ -1,6 +1,5 @@
 -- A commit, by what became of its calls.
-use Rattle.std.proofs.Common.{◌≡◌, ℕ, ◌+◌, ◌%◌, ◌≤◌, Bool, true, false, List, [], ◌∷◌, Ok, Err, Result, sym, refl, ap, ◌∙◌, subst, inl, inr, arith}
-use Rattle.std.specs.List.{AllByRecursion}
+use Rattle.std.proofs.Common.{◌≡◌, ℕ, ◌+◌, ◌%◌, ◌≤◌, Bool, true, false, List, Ok, Err, Result, sym, refl, ap, ◌∙◌, subst, inl, inr, arith}
 use Rattle.std.proofs.lemmas.Bool.Decides.{nat_tests}
 use Rattle.device.specs.Medium.{Medium}
 use Rattle.device.specs.Calls.{Writes, Syncs}
@@ -13,20 +12,18 @@ use Rattle.meta.specs.declared.Meta.{Meta}
 use Rattle.faults.specs.Faults.{from_device}
 use Rattle.walk.specs.Checking.{fits_pages}
 use Rattle.store.specs.Acting.{Acts}
-use Rattle.store.specs.Calls.{Obeys, CommitCalls}
-use Rattle.store.specs.Model.{commits}
+use Rattle.store.specs.Calls.{Commits}
 use Rattle.store.specs.Sealing.{page_for, Seals}
-use Rattle.store.specs.Versions.{Stands, Committed, Sound}
+use Rattle.store.specs.Snapshots.{snap}
+use Rattle.store.specs.States.{transaction_in}
+use Rattle.store.specs.Versions.{pages_held, Stands, Committed}
 use Rattle.store.specs.declared.state.State.{State}
 use Rattle.faults.specs.declared.fault.StoreFault.{StoreFault}
 use Rattle.store.specs.declared.state.State.TheVariants.{Shut, Idle, InTransaction}
 use Rattle.store.specs.declared.state.Held.{Held}
+use Rattle.store.specs.declared.state.Transaction.{Transaction}
 use Rattle.store.proofs.Acting.{acts_weaker}
-use Rattle.store.proofs.Kept.{Same, stands_but, pairs_keep, later_newest}
-
-all_durable : (n : Medium) → ((p : ℕ) → n.volatile p ≡ false) → (ps : List ℕ) → AllByRecursion (λ p. n.volatile p ≡ false) ps
-all_durable n f [] = tt
-all_durable n f (p ∷ ps) = (f p, all_durable n f ps)
+use Rattle.store.proofs.Kept.{Same, all_true, stands_but, pairs_keep, later_newest}
 
 module _ (m m₁ m₂ n : Medium) (x w : Meta) (b c : List Bool) (held : Committed m x b) (next : Stands m w c) (e : w.commit ≡ x.commit + 1)
     (first : Syncs m (Ok tt) m₁) (wrote : Writes m₁ (page_for w) (meta_page w) (Ok tt) m₂) (last : Syncs m₂ (Ok tt) n) where
@@ -48,11 +45,16 @@ module _ (m m₁ m₂ n : Medium) (x w : Meta) (b c : List Bool) (held : Committ
         later_newest n.bytes n.size x w (subst (λ z. Good (x.commit % 2) z x) (sym size_same) held.stands.good) held.stands.fits same.stands.good same.stands.fits
         (bytes_same (x.commit % 2) (λ z. let bad : ⊥ = omega arith in bad) ∙ held.page) page e;
     page_durable = last.1 (page_for w);
-    tree_durable = all_durable n last.1 _;
+    tree_durable = all_true (λ p. n.volatile p ≡ false) last.1 (pages_held n.bytes w);
   }
     where
       page : n.bytes (page_for w) ≡ meta_page w
       page = last.2.same_bytes (page_for w) ∙ wrote.2
+
+transaction_is : (s : State) (x : Transaction) → Ok x ≡ transaction_in s → s ≡ InTransaction x
+transaction_is Shut x e = cc
+transaction_is (Idle y) x e = cc
+transaction_is (InTransaction y) x e = cc
 
 -- power failed
 pub cut_off : (m n : Medium) (w : Meta) (t : History) (d : DeviceFault) → fits_pages m.size ≡ true → Seals w m n t (Err d) → (d ≡ Off) × (n.on ≡ false)
@@ -63,33 +65,22 @@ cut_off m n w t Off r (inl s) = (refl, s.0.0.is_off)
 cut_off m n w t Off r (inr (inl s)) = (refl, s.2.1.is_off)
 cut_off m n w t Off r (inr (inr s)) = (refl, s.4.0.is_off)
 
-module _ (P : History → Type 0) (m : Medium) (Q : History → Type 0) (n : Medium) (x w : Meta) (b c : Held) where
-  pub commit_refused : (d : DeviceFault) → Acts P m Q n (λ t. Seals w m n t (Err d))
-      → Acts P m Q n (λ t. CommitCalls (InTransaction x w) m n t (Err (from_device d)) × (Sound m (InTransaction x w) b → Obeys m (InTransaction x w) b n Shut c (commits n.on) (Err (from_device d))))
-  commit_refused d a = acts_weaker _ _ a (λ t _ s. (
-    (d, refl, s),
-    λ h.
-        let o = cut_off m n w t d h.0.room s in
-        record { answers = rw (o.0, o.1); becomes = rw o.1; sound = tt },
-  ))
-
-  pub commit_done : c.committed ≡ b.working → Acts P m Q n (λ t. Seals w m n t (Ok tt))
-      → Acts P m Q n (λ t. CommitCalls (InTransaction x w) m n t (Ok w.commit) × (Sound m (InTransaction x w) b → Obeys m (InTransaction x w) b n (Idle w) c (commits n.on) (Ok w.commit)))
-  commit_done e a = acts_weaker _ _ a (λ t _ s. (
-    s,
-    λ h.
-        let on : n.on ≡ true = s.4.0.is_on in
-        let k = sealed m s.0 s.1 n x w b.committed.marked b.working.marked h.0 h.1 h.2 s.2 s.3 s.4 in
-        let p = pairs_keep m n w _ (same m s.0 s.1 n x w b.committed.marked b.working.marked h.0 h.1 h.2 s.2 s.3 s.4) in
-        record { answers = rw (on, h.2); becomes = rw (on, h.2, p); sound = subst (λ z. Committed n w z.marked) (sym e) k },
-  ))
-
+module _ (P : History → Type 0) (m : Medium) (Q : History → Type 0) (n : Medium) where
   -- whatever the state is called
-  abbrev pub CommitsFrom : State → State → Result ℕ StoreFault → Type 0
-  CommitsFrom s z a = Acts P m Q n (λ t. CommitCalls s m n t a × (Sound m s b → Obeys m s b n z c (commits n.on) a))
+  abbrev pub CommitsFrom : (s z : State) (b c : Held) → Result ℕ StoreFault → Type 0
+  CommitsFrom s z b c a = Acts P m Q n (λ t. Commits (snap m s b) (snap n z c) t a)
 
-  pub refused_from : (s : State) (d : DeviceFault) → s ≡ InTransaction x w → Acts P m Q n (λ t. Seals w m n t (Err d)) → CommitsFrom s Shut (Err (from_device d))
-  refused_from s d e a = subst (λ v. CommitsFrom v Shut (Err (from_device d))) (sym e) (commit_refused d a)
+  pub refused_from : (s : State) (x : Transaction) (b : Held) (d : DeviceFault) → Ok x ≡ transaction_in s → Acts P m Q n (λ t. Seals x.working m n t (Err d)) → CommitsFrom s Shut b b (Err (from_device d))
+  refused_from s x b d e a = subst (λ v. CommitsFrom v Shut b b (Err (from_device d))) (sym (transaction_is s x e))
+      (acts_weaker _ _ a (λ t _ i. ((d, refl, i), λ h. let o = cut_off m n x.working t d h.0.room i in record { answers = rw (o.0, o.1); becomes = rw o.1; sound = tt })))
 
-  pub done_from : (s : State) → s ≡ InTransaction x w → c.committed ≡ b.working → Acts P m Q n (λ t. Seals w m n t (Ok tt)) → CommitsFrom s (Idle w) (Ok w.commit)
-  done_from s e f a = subst (λ v. CommitsFrom v (Idle w) (Ok w.commit)) (sym e) (commit_done f a)
+  pub done_from : (s : State) (x : Transaction) (b c : Held) → Ok x ≡ transaction_in s → c.committed ≡ b.working → Acts P m Q n (λ t. Seals x.working m n t (Ok tt)) → CommitsFrom s (Idle x.working) b c (Ok x.working.commit)
+  done_from s x b c e f a = subst (λ v. CommitsFrom v (Idle x.working) b c (Ok x.working.commit)) (sym (transaction_is s x e))
+      (acts_weaker _ _ a (λ t _ i. (
+        i,
+        λ h.
+            let on : n.on ≡ true = i.4.0.is_on in
+            let k = sealed m i.0 i.1 n x.committed x.working b.committed.marked b.working.marked h.0 h.1 h.2 i.2 i.3 i.4 in
+            let p = pairs_keep m n x.working _ (same m i.0 i.1 n x.committed x.working b.committed.marked b.working.marked h.0 h.1 h.2 i.2 i.3 i.4) in
+            record { answers = rw (on, h.2); becomes = rw (on, h.2, p); sound = subst (λ z. Committed n x.working z.marked) (sym f) k },
+      )))

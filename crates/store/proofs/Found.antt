@@ -1,6 +1,5 @@
 -- What is found on a device is a committed version.
-use Rattle.std.proofs.Common.{◌≡◌, ℕ, ◌-◌, ◌%◌, Bool, true, false, cond, ◌&&◌, ltb, ◌⊎◌, List, [], ◌∷◌, Some, None, Ok, Err, Option, Result, sym, refl, ap, ◌∙◌, subst, inl, inr, ⊎_elim, arith}
-use Rattle.std.specs.List.{AllByRecursion}
+use Rattle.std.proofs.Common.{◌≡◌, ℕ, ◌-◌, ◌%◌, Bool, true, false, cond, ◌&&◌, ltb, ◌⊎◌, List, Some, None, Ok, Err, Option, Result, sym, refl, ap, ◌∙◌, subst, inl, inr, ⊎_elim}
 use Rattle.std.specs.Str.{bytes_eq}
 use Rattle.std.proofs.lemmas.Slice.Eq.{bytes_eq-Decides}
 use Rattle.std.proofs.lemmas.Bool.{and_parts}
@@ -21,9 +20,7 @@ use Rattle.paged.proofs.Lying.{one_tree_lies_lem}
 use Rattle.walk.specs.Marking.{MarksAre}
 use Rattle.walk.specs.Checking.{fits_pages, newest_in, Holding, holding, held_by, powered, found_on}
 use Rattle.store.specs.Versions.{height_of, tree_of, pages_held, Committed}
-
-pub bad : {A : Type 0} → ◌≡◌ {A = ℕ} 0 1 → A
-bad e = let z : ⊥ = omega arith in absurd z
+use Rattle.store.proofs.Kept.{all_true}
 
 -- a meta page that passes is the page of the meta that it says, and that is good
 pub read_tells : (at size : ℕ) (b : List ℕ) (x : Meta) → read_meta at size b ≡ Some x → (b ≡ meta_page x) × Good at size x
@@ -35,7 +32,7 @@ read_tells at size b x e = by (bytes_eq b (meta_page (meta_in b)) && is_good at 
         let p = and_parts _ _ q in
         let s : meta_in b ≡ x = cc in
         ((bytes_eq-Decides _ _).0 p.0 ∙ ap meta_page s, subst (Good at size) s (good_from at size (meta_in b) p.1))
-    by false q h = bad cc
+    by false q h = cc
 
 newer_tells : (a b : Option Meta) (x : Meta) → newer a b ≡ Some x → (a ≡ Some x) ⊎ (b ≡ Some x)
 newer_tells None b x e = inr e
@@ -59,20 +56,20 @@ abbrev Fits-holding : (ℕ → List ℕ) → ℕ → Holding → Type 0
 Fits-holding f size h = (newest_in f size ≡ Some h.meta) × (walked f size (h.meta.levels - 1) h.meta.root h.meta.pairs ≡ Ok h.tree)
 
 held_tells : (f : ℕ → List ℕ) (size : ℕ) (o : Option Meta) (h : Holding) → newest_in f size ≡ o → held_by f size o ≡ Ok h → Fits-holding f size h
-held_tells f size None h e q = bad cc
+held_tells f size None h e q = cc
 held_tells f size (Some y) h e q = by (walked f size (y.levels - 1) y.root y.pairs) refl q
   where
     by : (v : Result (PagedTree (y.levels - 1)) Damage) → walked f size (y.levels - 1) y.root y.pairs ≡ v → holding y v ≡ Ok h → Fits-holding f size h
     by (Ok t) w z = let s : record { meta = y; tree = t } ≡ h = cc in subst (Fits-holding f size) s (e, w)
-    by (Err d) w z = bad cc
+    by (Err d) w z = cc
 
 pub found_tells : (f : ℕ → List ℕ) (size : ℕ) (on : Bool) (h : Holding) → found_on f size on ≡ Ok h → (fits_pages size ≡ true) × (on ≡ true) × Fits-holding f size h
 found_tells f size on h e = by (fits_pages size) on refl e
   where
     by : (t o : Bool) → fits_pages size ≡ t → cond t (powered o (held_by f size (newest_in f size))) (Err PageCount) ≡ Ok h → (fits_pages size ≡ true) × (o ≡ true) × Fits-holding f size h
     by true true q z = (q, refl, held_tells f size (newest_in f size) h refl z)
-    by true false q z = bad cc
-    by false o q z = bad cc
+    by true false q z = cc
+    by false o q z = cc
 
 -- is committed, where all is durable
 pub found_committed : (n : Medium) (x : Meta) (tree : PagedTree (x.levels - 1)) (marks : List Bool) → Fits x → found_on n.bytes n.size n.on ≡ Ok (record { meta = x; tree = tree })
@@ -93,11 +90,7 @@ found_committed n x tree marks fits e mk d =
         page = g.0;
         newest = t.2.0;
         page_durable = d (x.commit % 2);
-        tree_durable = all (pages_held n.bytes x);
+        tree_durable = all_true (λ p. n.volatile p ≡ false) d (pages_held n.bytes x);
       },
       same,
     )
-  where
-    all : (ps : List ℕ) → AllByRecursion (λ p. n.volatile p ≡ false) ps
-    all [] = tt
-    all (p ∷ ps) = (d p, all ps)

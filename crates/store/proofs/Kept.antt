@@ -62,7 +62,7 @@ stands_same m n x marks e a s =
       tree = same;
     }
 
-all_true : {X : Type 0} (P : X → Type 0) → ((x : X) → P x) → (xs : List X) → AllByRecursion P xs
+pub all_true : {X : Type 0} (P : X → Type 0) → ((x : X) → P x) → (xs : List X) → AllByRecursion P xs
 all_true P f [] = tt
 all_true P f (x ∷ xs) = (f x, all_true P f xs)
 

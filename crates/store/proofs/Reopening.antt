@@ -1,72 +1,43 @@
 -- An opening, by what its calls answer.
-use Rattle.std.proofs.Common.{◌≡◌, Bool, true, false, IfOk, Ok, Err, Result, sym, refl, ◌∙◌, subst, inl, inr}
+use Rattle.std.proofs.Common.{◌≡◌, Bool, true, IfOk, Ok, Err, Result, sym, refl, ◌∙◌, inl, inr}
 use Rattle.std.specs.List.{AllByRecursion}
 use Rattle.std.proofs.ByRecursion.{All-append, All-weaker}
 use Rattle.device.specs.Medium.{Medium}
 use Rattle.device.specs.Calls.{Keeps, Syncs}
-use Rattle.device.specs.History.{Step, History, Happens, did_sync}
+use Rattle.device.specs.History.{History, Happens, did_sync}
 use Rattle.device.specs.Looking.{IsRead, Looks}
 use Rattle.device.specs.declared.fault.DeviceFault.{DeviceFault}
 use Rattle.device.specs.declared.fault.DeviceFault.TheVariants.{Outside, Off}
 use Rattle.device.proofs.Looking.{reads_keep, same_pages}
 use Rattle.meta.specs.Laws.{Fits}
-use Rattle.meta.specs.declared.Meta.{Meta}
 use Rattle.faults.specs.Faults.{from_device}
 use Rattle.faults.specs.declared.fault.StoreFault.{StoreFault}
-use Rattle.faults.specs.declared.fault.StoreFault.TheVariants.{PageCount}
 use Rattle.walk.specs.Checking.{fits_pages, found_on, Recovers}
 use Rattle.walk.specs.declared.inspection.Recovered.{Recovered}
 use Rattle.store.specs.Acting.{Acts}
-use Rattle.store.specs.Calls.{Obeys}
-use Rattle.store.specs.Model.{opens}
-use Rattle.store.specs.Opening.{IsQuiet, map_on, Ready, Reopens}
-use Rattle.store.specs.Versions.{Committed}
-use Rattle.store.specs.declared.state.State.{State}
-use Rattle.store.specs.declared.state.State.TheVariants.{Shut, Idle, InTransaction}
-use Rattle.store.specs.declared.state.Held.{Held}
-use Rattle.store.proofs.Acting.{acts_none, acts_one, acts_more, acts_looks, acts_weaker}
+use Rattle.store.specs.Opening.{IsQuiet, Reopens}
+use Rattle.store.proofs.Acting.{acts_one, acts_more, acts_looks}
 use Rattle.store.proofs.Found.{found_committed}
 
 found_same : (m n : Medium) (on : Bool) → Keeps m n → found_on n.bytes n.size on ≡ found_on m.bytes m.size on
 found_same m n on k = λ i. found_on (same_pages k i) (k.same_size i) on
 
-read_quiet : (s : Step) → IsRead s → IsQuiet s
-read_quiet s r = inl r
+module _ (P : History → Type 0) (m : Medium) (Q : History → Type 0) (n : Medium) (room : fits_pages m.size ≡ true) where
+  pub sync_refused : (d : DeviceFault) → Happens P m (did_sync (Err d)) Q n → Acts P m Q n (λ t. AllByRecursion IsQuiet t × Reopens m n (Err (from_device d)))
+  sync_refused Outside h = acts_one _ (did_sync (Err Outside)) h (λ s. absurd s)
+  sync_refused Off h = acts_one _ (did_sync (Err Off)) h (λ s. ((inr (Err Off, refl, s), tt), rw (room, s.0.is_off)))
 
-module _ (P : History → Type 0) (m : Medium) where
-  pub room_refused : fits_pages m.size ≡ false → Acts P m P m (λ t. AllByRecursion IsQuiet t × Reopens m m (Err PageCount))
-  room_refused e = acts_none _ (λ h p. (tt, rw e))
+  module _ (R : History → Type 0) (o : Medium) (first : Happens P m (did_sync (Ok tt)) Q n) where
+    answered : (r : Result Recovered StoreFault) (t : History) → IfOk r (λ x. Fits x.meta) → Syncs m (Ok tt) n → Keeps n o → Recovers n o.on t r → Reopens m o r
+    answered (Err f) t fits s k w = sym (found_same m n o.on s.2) ∙ w
+    answered (Ok r) t fits s k (tree, e, mk, ps) =
+        let here : found_on o.bytes o.size o.on ≡ Ok (record { meta = r.meta; tree = tree }) = found_same n o o.on k ∙ e in
+        let c = found_committed o r.meta tree r.marks.marked fits here mk (λ p. k.stays_durable p (s.1 p)) in
+        (tree, sym (found_same m n o.on s.2) ∙ e, c.0, c.1)
 
-  module _ (Q : History → Type 0) (n : Medium) (room : fits_pages m.size ≡ true) where
-    pub sync_refused : (d : DeviceFault) → Happens P m (did_sync (Err d)) Q n → Acts P m Q n (λ t. AllByRecursion IsQuiet t × Reopens m n (Err (from_device d)))
-    sync_refused Outside h = acts_one _ (did_sync (Err Outside)) h (λ s. absurd s)
-    sync_refused Off h = acts_one _ (did_sync (Err Off)) h (λ s. ((inr (Err Off, refl, s), tt), rw (room, s.0.is_off)))
-
-    module _ (R : History → Type 0) (o : Medium) (first : Happens P m (did_sync (Ok tt)) Q n) where
-      answered : (r : Result Recovered StoreFault) (t : History) → IfOk r (λ x. Fits x.meta) → Syncs m (Ok tt) n → Keeps n o → Recovers n o.on t r → Reopens m o r
-      answered (Err f) t fits s k w = sym (found_same m n o.on s.2) ∙ w
-      answered (Ok r) t fits s k (tree, e, mk, ps) =
-          let here : found_on o.bytes o.size o.on ≡ Ok (record { meta = r.meta; tree = tree }) = found_same n o o.on k ∙ e in
-          let c = found_committed o r.meta tree r.marks.marked fits here mk (λ p. k.stays_durable p (s.1 p)) in
-          (tree, sym (found_same m n o.on s.2) ∙ e, c.0, c.1)
-
-      pub recovered : (r : Result Recovered StoreFault) → IfOk r (λ x. Fits x.meta) → Looks Q n R o (λ t. Recovers n o.on t r) → Acts P m R o (λ t. AllByRecursion IsQuiet t × Reopens m o r)
-      recovered r fits l =
-          acts_more (λ t. AllByRecursion IsQuiet t × Syncs m (Ok tt) n) (λ u. AllByRecursion IsQuiet u × ((Syncs m (Ok tt) n) → Reopens m o r)) _
-          (acts_one _ (did_sync (Ok tt)) first (λ s. ((inr (Ok tt, refl, s), tt), s)))
-          (acts_looks _ _ l (λ u lu au w. (All-weaker IsRead IsQuiet read_quiet u au, λ s. answered r u fits s (reads_keep n u o lu au) w)))
-          (λ t u _ _ _ _ i j. (All-append IsQuiet u t j.0 i.0, j.1 i.1))
-
--- the store after it
-opened_model : (s : State) (m n : Medium) (b c : Held) (r : Recovered) → ((x w : Meta) → s ≡ InTransaction x w → ⊥) → c.committed ≡ r.marks → Reopens m n (Ok r)
-    → Obeys m s b n (Idle r.meta) c (opens (map_on m n.on)) (Ok r.meta.commit)
-opened_model Shut m n b c r ne e (tree, f, k, same) =
-    record { answers = rw f; becomes = rw (f, same); sound = subst (λ z. Committed n r.meta z.marked) (sym e) k }
-opened_model (Idle x) m n b c r ne e (tree, f, k, same) =
-    record { answers = rw f; becomes = rw (f, same); sound = subst (λ z. Committed n r.meta z.marked) (sym e) k }
-opened_model (InTransaction x w) m n b c r ne e q = absurd (ne x w refl)
-
-module _ (P : History → Type 0) (m : Medium) (Q : History → Type 0) (n : Medium) (s : State) (b c : Held) where
-  pub opened_store : (r : Recovered) → ((x w : Meta) → s ≡ InTransaction x w → ⊥) → c.committed ≡ r.marks → Acts P m Q n (λ t. AllByRecursion IsQuiet t × Reopens m n (Ok r))
-      → Acts P m Q n (λ t. AllByRecursion IsQuiet t × (Ready m s b → Obeys m s b n (Idle r.meta) c (opens (map_on m n.on)) (Ok r.meta.commit)))
-  opened_store r ne e a = acts_weaker _ _ a (λ t _ i. (i.0, λ _. opened_model s m n b c r ne e i.1))
+    pub recovered : (r : Result Recovered StoreFault) → IfOk r (λ x. Fits x.meta) → Looks Q n R o (λ t. Recovers n o.on t r) → Acts P m R o (λ t. AllByRecursion IsQuiet t × Reopens m o r)
+    recovered r fits l =
+        acts_more (λ t. AllByRecursion IsQuiet t × Syncs m (Ok tt) n) (λ u. AllByRecursion IsQuiet u × ((Syncs m (Ok tt) n) → Reopens m o r)) _
+        (acts_one _ (did_sync (Ok tt)) first (λ s. ((inr (Ok tt, refl, s), tt), s)))
+        (acts_looks _ _ l (λ u lu au w. (All-weaker IsRead IsQuiet (λ _ r. inl r) u au, λ s. answered r u fits s (reads_keep n u o lu au) w)))
+        (λ t u _ _ _ _ i j. (All-append IsQuiet u t j.0 i.0, j.1 i.1))

@@ -6,20 +6,21 @@ use Rattle.device.specs.declared.fault.DeviceFault.{DeviceFault}
 use Rattle.meta.specs.declared.Meta.{Meta}
 use Rattle.faults.specs.Faults.{from_device}
 use Rattle.faults.specs.declared.fault.StoreFault.{StoreFault}
-use Rattle.store.specs.Model.{Model, Stepped}
+use Rattle.store.specs.Model.{Model, Stepped, commits}
 use Rattle.store.specs.Sealing.{Seals}
-use Rattle.store.specs.Versions.{Sound, model_of}
+use Rattle.store.specs.Snapshots.{Snapshot, IsSound, model_at}
 use Rattle.store.specs.declared.state.State.{State}
 use Rattle.store.specs.declared.state.State.TheVariants.{Shut, Idle, InTransaction}
-use Rattle.store.specs.declared.state.Held.{Held}
 use Rattle.store.specs.declared.ticket.Ticket.{Ticket}
 
--- A sound store answers as the model does, becomes what the model becomes, and stays sound. It was in the state s with
--- the marks b on the medium m, and is in the state z with the marks c on the medium n.
-pub record Obeys {A : Type 0} (m : Medium) (s : State) (b : Held) (n : Medium) (z : State) (c : Held) (step : Model → Stepped A) (a : Result A StoreFault) : Type 0 where
-  pub answers : a ≡ (step (model_of m.bytes s)).answer
-  pub becomes : model_of n.bytes z ≡ (step (model_of m.bytes s)).model
-  pub sound : Sound n z c
+-- A sound store answers as the model does, becomes what the model becomes, and stays sound. It was s, and is z.
+pub record Obeys {A : Type 0} (s z : Snapshot) (step : Model → Stepped A) (a : Result A StoreFault) : Type 0 where
+  pub answers : a ≡ (step (model_at s)).answer
+  pub becomes : model_at z ≡ (step (model_at s)).model
+  pub sound : IsSound z
+
+abbrev pub ObeysIfSound : {A : Type 0} → Snapshot → Snapshot → (Model → Stepped A) → Result A StoreFault → Type 0
+ObeysIfSound s z step a = IsSound s → Obeys s z step a
 
 -- an answer without the ticket in it
 abbrev pub granted : Result Ticket StoreFault → Result Unit StoreFault
@@ -35,4 +36,8 @@ SealedBy w m n t (Err f) = (d : DeviceFault) × (f ≡ from_device d) × Seals w
 abbrev pub CommitCalls : State → Medium → Medium → History → Result ℕ StoreFault → Type 0
 CommitCalls Shut m n t a = (t ≡ []) × (n ≡ m)
 CommitCalls (Idle x) m n t a = (t ≡ []) × (n ≡ m)
-CommitCalls (InTransaction x w) m n t a = SealedBy w m n t a
+CommitCalls (InTransaction x) m n t a = SealedBy x.working m n t a
+
+-- a commit, by the calls t
+abbrev pub Commits : Snapshot → Snapshot → History → Result ℕ StoreFault → Type 0
+Commits s z t a = CommitCalls s.state s.medium z.medium t a × ObeysIfSound s z (commits z.medium.on) a

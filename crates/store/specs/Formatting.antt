@@ -1,5 +1,5 @@
 -- A device as it is formatted.
-use Rattle.std.specs.Prelude.{◌≡◌, ℕ, true, false, [], None, Ok, Err, Result}
+use Rattle.std.specs.Prelude.{◌≡◌, ℕ, true, false, [], OnOk, None, Ok, Err, Result}
 use Rattle.device.specs.Medium.{Medium, Durable, zeros}
 use Rattle.device.specs.declared.fault.DeviceFault.{DeviceFault}
 use Rattle.device.specs.declared.fault.DeviceFault.TheVariants.{Off}
@@ -8,7 +8,11 @@ use Rattle.page.specs.Reading.{first_fault}
 use Rattle.page.specs.Views.{pairs_in}
 use Rattle.meta.specs.Layout.{meta_page}
 use Rattle.meta.specs.declared.Meta.{Meta}
+use Rattle.faults.specs.declared.fault.StoreFault.{StoreFault}
 use Rattle.walk.specs.Checking.{fits_pages}
+use Rattle.store.specs.Calls.{ObeysIfSound}
+use Rattle.store.specs.Model.{formats}
+use Rattle.store.specs.Snapshots.{Snapshot}
 
 -- the meta of commit 0, on a device with so many pages: an empty leaf on page 2 is the tree
 abbrev pub first_meta : ℕ → Meta
@@ -28,3 +32,7 @@ pub record Fresh (m : Medium) : Type 0 where
 abbrev pub LaysOut : Medium → Medium → Result Unit DeviceFault → Type 0
 LaysOut m n (Ok u) = fits_pages m.size ≡ true → Fresh n
 LaysOut m n (Err f) = fits_pages m.size ≡ true → (f ≡ Off) × (n.on ≡ false)
+
+-- a formatting of the store's device
+abbrev pub FormatsTo : Snapshot → Snapshot → Result Unit StoreFault → Type 0
+FormatsTo s z a = OnOk a (Fresh z.medium) × ObeysIfSound s z (formats z.medium.on (fits_pages s.medium.size)) a

@@ -1,9 +1,11 @@
 pub mod Model
 pub mod Acting
+pub mod States
 pub mod Sealing
 pub mod Versions
+pub mod Snapshots
+pub mod Calls
 pub mod Opening
 pub mod Reading
 pub mod Formatting
-pub mod Calls
 pub mod Client

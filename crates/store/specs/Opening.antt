@@ -1,8 +1,9 @@
 -- What an opening finds.
 use Rattle.std.specs.Prelude.{◌≡◌, ℕ, ◌-◌, Bool, ◌⊎◌, List, Ok, Err, Result}
+use Rattle.std.specs.List.{AllByRecursion}
 use Rattle.device.specs.Medium.{Medium}
 use Rattle.device.specs.Calls.{Syncs}
-use Rattle.device.specs.History.{Step, did_sync}
+use Rattle.device.specs.History.{Step, History, did_sync}
 use Rattle.device.specs.Looking.{IsRead}
 use Rattle.device.specs.declared.fault.DeviceFault.{DeviceFault}
 use Rattle.cuts.specs.Nodes.{Pair}
@@ -10,6 +11,9 @@ use Rattle.faults.specs.declared.fault.StoreFault.{StoreFault}
 use Rattle.paged.specs.Paged.{PagedTree, pairs_on}
 use Rattle.walk.specs.Checking.{Holding, found_on}
 use Rattle.walk.specs.declared.inspection.Recovered.{Recovered}
+use Rattle.store.specs.Calls.{Obeys}
+use Rattle.store.specs.Model.{opens}
+use Rattle.store.specs.Snapshots.{Snapshot}
 use Rattle.store.specs.Versions.{tree_of, Sound, Committed}
 use Rattle.store.specs.declared.state.State.{State}
 use Rattle.store.specs.declared.state.State.TheVariants.{Shut, Idle, InTransaction}
@@ -31,7 +35,11 @@ map_on m on = map_in (found_on m.bytes m.size on)
 abbrev pub Ready : Medium → State → Held → Type 0
 Ready m Shut b = Unit {0}
 Ready m (Idle x) b = Unit {0}
-Ready m (InTransaction x w) b = Sound m (InTransaction x w) b
+Ready m (InTransaction x) b = Sound m (InTransaction x) b
+
+-- an opening, by the calls t
+abbrev pub Opens : Snapshot → Snapshot → History → Result ℕ StoreFault → Type 0
+Opens s z t a = AllByRecursion IsQuiet t × (Ready s.medium s.state s.held → Obeys s z (opens (map_on s.medium z.medium.on)) a)
 
 -- what reading the device anew answers
 abbrev pub Reopens : Medium → Medium → Result Recovered StoreFault → Type 0

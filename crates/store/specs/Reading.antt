@@ -1,7 +1,11 @@
 -- What a read of the map hands out.
 use Rattle.std.specs.Prelude.{◌≡◌, ℕ, ◌<◌, Bool, ◌&&◌, List, length, Some, None, Ok, Err, Option, Result, nat_le}
 use Rattle.std.specs.List.{ContainsAt}
-use Rattle.device.specs.Medium.{Medium, zeros}
+use Rattle.std.specs.Result.{result_ok}
+use denote.Ref.{MutBor}
+use Rattle.device.specs.Medium.{zeros}
+use Rattle.device.specs.Looking.{Looks}
+use Rattle.device.specs.declared.Reader.{Ghosts}
 use Rattle.device.specs.declared.fault.DeviceFault.TheVariants.{Outside, Off}
 use Rattle.cuts.specs.Nodes.{Pair}
 use Rattle.page.specs.Kinds.{leaf_rules}
@@ -11,20 +15,19 @@ use Rattle.page.specs.declared.fault.PageFault.{PageFault}
 use Rattle.page.specs.declared.fault.PageFault.TheVariants.{Device, Damaged}
 use Rattle.meta.specs.declared.Meta.{Meta}
 use Rattle.faults.specs.declared.fault.StoreFault.{StoreFault}
-use Rattle.faults.specs.declared.fault.StoreFault.TheVariants.{Page}
-use Rattle.search.specs.Finding.{pair_at, leaf_pages}
+use Rattle.search.specs.Finding.{pair_at, leaf_pages, Searches}
 use Rattle.search.specs.declared.Place.{Place}
-use Rattle.store.specs.Model.{Model, Stepped}
-use Rattle.store.specs.Versions.{height_of, tree_of, Sound, model_of}
+use Rattle.store.specs.Model.{Model, Stepped, reads}
+use Rattle.store.specs.Snapshots.{Snapshot, snapshot, IsSound, model_at}
+use Rattle.store.specs.States.{version_in}
+use Rattle.store.specs.Versions.{height_of, tree_of}
 use Rattle.store.specs.declared.state.State.{State}
-use Rattle.store.specs.declared.state.State.TheVariants.{Shut, Idle, InTransaction}
-use Rattle.store.specs.declared.state.Held.{Held}
+use Rattle.store.specs.declared.state.State.TheVariants.{Shut}
+use Rattle.store.specs.declared.store.Store.{Store}
 
 -- the version that is read: the working one in a transaction, else the committed one
 abbrev pub version_of : State → Option Meta
-version_of Shut = None
-version_of (Idle x) = Some x
-version_of (InTransaction x w) = Some w
+version_of s = result_ok (version_in s)
 
 -- a key of 1 to 64 bytes; a key of at most 64 bytes
 abbrev pub is_key : List ℕ → Bool
@@ -51,16 +54,26 @@ HandsOut m v (Err f) a buffer = (a ≡ Err f) × (buffer ≡ zeros)
 HandsOut m v (Ok p) a buffer = (cell : ℕ) × (a ≡ Ok cell) × InLeafOf m v p buffer cell
 
 -- a sound store hands out what the model finds, becomes what the model becomes, and stays sound
-pub record Hands (m : Medium) (s : State) (b : Held) (n : Medium) (z : State) (c : Held) (step : Model → Stepped Pair) (a : Result ℕ StoreFault) (buffer : List ℕ) : Type 0 where
-  pub hands : HandsOut m.bytes (version_of s) (step (model_of m.bytes s)).answer a buffer
-  pub becomes : model_of n.bytes z ≡ (step (model_of m.bytes s)).model
-  pub sound : Sound n z c
+pub record Hands (s z : Snapshot) (step : Model → Stepped Pair) (a : Result ℕ StoreFault) (buffer : List ℕ) : Type 0 where
+  pub hands : HandsOut s.medium.bytes (version_of s.state) (step (model_at s)).answer a buffer
+  pub becomes : model_at z ≡ (step (model_at s)).model
+  pub sound : IsSound z
 
--- the outcome of a search, as an answer of the store, and the state after it
-abbrev pub carried : Result (Option Place) PageFault → Result (Option Place) StoreFault
-carried (Ok o) = Ok o
-carried (Err f) = Err (Page f)
+-- what a read promises, where `fits` says whether the key's length does
+abbrev pub HandsIfSound : Snapshot → Snapshot → (fits : Bool) → (List Pair → Option Pair) → Result ℕ StoreFault → List ℕ → Type 0
+HandsIfSound s z fits want a buffer = IsSound s → Hands s z (reads z.medium.on fits want) a buffer
 
+-- from a store to what it becomes, by reads of its device
+abbrev pub ReadsOut : {D : Type 0} → Ghosts D → Store D → Store D → (fits : Bool) → (List Pair → Option Pair) → Result ℕ StoreFault → List ℕ → Type 0
+ReadsOut r s z fits want a buffer =
+    Looks (r.past s.device) (r.medium s.device) (r.past z.device) (r.medium z.device) (λ _. HandsIfSound (snapshot r s) (snapshot r z) fits want a buffer)
+
+-- Each call of the search, of which `post` tells, searches the tree from its page on for what is wanted.
+abbrev pub Seeks : {D : Type 0} → Ghosts D → (MutBor D → (root height : ℕ) → Result (Option Place) PageFault → MutBor D → Type 0) → (List Pair → Option Pair) → Type 0
+Seeks {D} r post want = (d e : MutBor D) (root height : ℕ) (a : Result (Option Place) PageFault)
+    → post d root height a e → Searches (r.past d.now) (r.medium d.now) (r.past e.now) (r.medium e.now) root height want a
+
+-- the state after a search
 abbrev pub shut_if_off : Result (Option Place) PageFault → State → State
 shut_if_off (Ok o) s = s
 shut_if_off (Err (Device Off)) s = Shut

@@ -50,8 +50,8 @@ pub record Committed (m : Medium) (x : Meta) (marks : List Bool) : Type 0 where
 abbrev pub Sound : Medium → State → Held → Type 0
 Sound m Shut held = Unit {0}
 Sound m (Idle x) held = Committed m x held.committed.marked
-Sound m (InTransaction x w) held =
-    Committed m x held.committed.marked × Stands m w held.working.marked × (w.commit ≡ x.commit + 1)
+Sound m (InTransaction x) held =
+    Committed m x.committed held.committed.marked × Stands m x.working held.working.marked × (x.working.commit ≡ x.committed.commit + 1)
 
 -- a store that has kept nothing: no page is marked
 pub record Forgotten (held : Held) : Type 0 where
@@ -62,4 +62,4 @@ pub record Forgotten (held : Held) : Type 0 where
 abbrev pub model_of : (m : ℕ → List ℕ) → State → Model
 model_of m Shut = shut
 model_of m (Idle x) = idle x.commit (pairs_held m x)
-model_of m (InTransaction x w) = active x.commit (pairs_held m x) (pairs_held m w)
+model_of m (InTransaction x) = active x.committed.commit (pairs_held m x.committed) (pairs_held m x.working)

@@ -1,5 +1,3 @@
-use faults::StoreFault;
-
 // A call that a client makes, or a power return.
 #[derive(Drop)]
 pub enum Call {
@@ -12,7 +10,7 @@ pub enum Call {
     PowerReturn,
 }
 
-// What a call answered.
+// What an accepted call answered.
 #[derive(Clone, Copy, PartialEq, Eq, Debug)]
 pub enum Answer {
     // the number of a commit
@@ -20,5 +18,4 @@ pub enum Answer {
     // the number of a cell
     Cell(usize),
     Done,
-    Refused(StoreFault),
 }

@@ -1,28 +1,26 @@
-ghost use Rattle.std.specs.Prelude.{◌≡◌};
-ghost use Rattle.store.specs.Acting.{Acts};
+ghost use Rattle.store.specs.Acting.{ActsOn};
 ghost use Rattle.store.specs.Formatting.{LaysOut};
 
 use crate::sealing::seal;
-use device::{Device, DeviceFault, PAGE_SIZE, Reader};
+use device::{Device, DeviceFault, PAGE_SIZE};
 use meta::Meta;
 use page::LeafPage;
 
 // Lays out a device: blank meta pages and an empty leaf, and when these are durable, commit 0.
-pub(crate) fn lay_out<D: Device>(device: &mut D, size: u32) -> Result<(), DeviceFault>
-    requires { size ≡ (D.Reader.medium device.old).size }
-    ensures { Acts (D.Reader.past device.old) (D.Reader.medium device.old) (D.Reader.past device.new) (D.Reader.medium device.new) (λ t. LaysOut (D.Reader.medium device.old) (D.Reader.medium device.new) result) }
+pub(crate) fn lay_out<D: Device>(device: &mut D) -> Result<(), DeviceFault>
+    ensures { ActsOn D.Reader device.old device.new (λ m n t. LaysOut m n result) }
 {
-    let blank = [0; PAGE_SIZE];
-    let leaf = LeafPage::empty();
-    device.write(0, &blank)?;
-    device.write(1, &blank)?;
-    device.write(2, leaf.bytes())?;
     let first = Meta {
-        pages: size,
+        pages: device.pages(),
         root: 2,
         commit: 0,
         pairs: 0,
         levels: 1,
     };
+    let blank = [0; PAGE_SIZE];
+    let leaf = LeafPage::empty();
+    device.write(0, &blank)?;
+    device.write(1, &blank)?;
+    device.write(2, leaf.bytes())?;
     seal(device, &first)
 }

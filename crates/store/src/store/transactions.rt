@@ -1,17 +1,17 @@
 // Begin and abort, which do not call the device.
 ghost use Rattle.std.specs.Prelude.{◌≡◌};
-ghost use Rattle.store.specs.Calls.{Obeys, granted};
+ghost use Rattle.store.specs.Calls.{ObeysIfSound, granted};
 ghost use Rattle.store.specs.Model.{begins, aborts};
-ghost use Rattle.store.specs.Versions.{Forgotten, Sound};
+ghost use Rattle.store.specs.Snapshots.{snapshot};
+ghost use Rattle.store.specs.Versions.{Forgotten};
 ghost use Rattle.store.specs.declared.state.State.TheVariants.{Shut};
 
-use crate::state::{Held, State};
+use crate::state::{Held, State, Transaction};
 use crate::store::Store;
 use crate::ticket::Ticket;
 use device::Device;
 use faults::StoreFault;
 use meta::Meta;
-use walk::Marks;
 
 impl<D: Device> Store<D> {
     // A store that is shut, over a device that may hold anything.
@@ -23,51 +23,36 @@ impl<D: Device> Store<D> {
         Store {
             device,
             state: State::Shut,
-            held: Held {
-                committed: Marks::new(),
-                working: Marks::new(),
-            },
+            held: Held::new(),
         }
     }
 
     // Begins a transaction: the working map is the committed one.
     pub fn begin(&mut self) -> Result<Ticket, StoreFault>
         ensures device { self.new.device ≡ self.old.device }
-        ensures model { Sound (D.Reader.medium self.old.device) self.old.state self.old.held → Obeys (D.Reader.medium self.old.device) self.old.state self.old.held (D.Reader.medium self.new.device) self.new.state self.new.held begins (granted result) }
+        ensures model { ObeysIfSound (snapshot D.Reader self.old) (snapshot D.Reader self.new) begins (granted result) }
     {
-        match self.state {
-            State::Shut => Err(StoreFault::Shut),
-            State::InTransaction(_, _) => Err(StoreFault::InTransaction),
-            State::Idle(committed) => {
-                if committed.commit == u64::MAX {
-                    return Err(StoreFault::LastCommit);
-                }
-                let working = Meta {
-                    commit: committed.commit + 1,
-                    ..committed
-                };
-                self.state = State::InTransaction(committed, working);
-                self.held.working = self.held.committed;
-                Ok(Ticket::new())
-            }
-        }
+        let committed = self.state.idle()?;
+        let Some(commit) = committed.commit.checked_add(1) else {
+            return Err(StoreFault::LastCommit);
+        };
+        let working = Meta {
+            commit,
+            ..committed
+        };
+        self.state = State::InTransaction(Transaction { committed, working });
+        self.held.working = self.held.committed;
+        Ok(Ticket::new())
     }
-}
 
-impl<D: Device> Store<D> {
     // Ends the transaction: the working map is dropped.
     pub fn abort(&mut self, ticket: Ticket) -> Result<(), StoreFault>
         ensures device { self.new.device ≡ self.old.device }
-        ensures model { Sound (D.Reader.medium self.old.device) self.old.state self.old.held → Obeys (D.Reader.medium self.old.device) self.old.state self.old.held (D.Reader.medium self.new.device) self.new.state self.new.held aborts result }
+        ensures model { ObeysIfSound (snapshot D.Reader self.old) (snapshot D.Reader self.new) aborts result }
     {
         ticket.take_back();
-        match self.state {
-            State::Shut => Err(StoreFault::Shut),
-            State::Idle(_) => Err(StoreFault::NoTransaction),
-            State::InTransaction(committed, _) => {
-                self.state = State::Idle(committed);
-                Ok(())
-            }
-        }
+        let committed = self.state.transaction()?.committed;
+        self.state = State::Idle(committed);
+        Ok(())
     }
 }

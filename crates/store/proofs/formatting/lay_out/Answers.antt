@@ -26,4 +26,4 @@ returns-in_err-write-3 g c =
 pub returns : goal.returns
 returns g c =
     let l = c.empty-leaf.result in
-    sealed_out l.bytes (none_of leaf_rules l.bytes l.sound) c.empty-leaf.ensures _ _ _ _ _ _ c.in_ok-write.ensures _ _ c.in_ok-write-2.ensures _ _ c.args.size _ c.requires (rw c.bytes.ensures at c.in_ok-write-3.ensures) c.seal.ensures
+    sealed_out l.bytes (none_of leaf_rules l.bytes l.sound) c.empty-leaf.ensures _ _ _ _ _ _ c.in_ok-write.ensures _ _ c.in_ok-write-2.ensures _ _ _ _ c.pages.ensures (rw c.bytes.ensures at c.in_ok-write-3.ensures) c.seal.ensures

@@ -1,18 +1,30 @@
 use Rattle.std.proofs.Common.{Ok, Err, refl}
-use Rattle.store.proofs.Clients.{begin_acts, get_acts, after_acts, return_acts}
+use Rattle.std.proofs.lemmas.Result.{err_from_is_err_and}
+use Rattle.tree.specs.Maps.{first_above}
+use Rattle.search.specs.Finding.{pair_with}
+use Rattle.store.specs.Model.{begins}
+use Rattle.store.specs.Reading.{is_key, is_short}
+use Rattle.store.specs.declared.client.Call.TheVariants.{Begin, Get, After}
+use Rattle.store.proofs.Clients.{mapped, steps_act, read_acts, return_acts}
 use Rattle.store.proofs.store.Store.act.Goals as goal
 
-pub returns-in-Ok : goal.returns-in-Ok
-returns-in-Ok g c = begin_acts g.D.Reader.past g.D.Reader.medium c.args.self.now.device c.begin.new.self.device _ _ _ _ _ (Ok tt) _ c.in-Begin.is refl c.in-Ok.ensures.device c.in-Ok.ensures.model
+pub returns-in_err-begin-in-Begin : goal.returns-in_err-begin-in-Begin
+returns-in_err-begin-in-Begin g c =
+    let q = err_from_is_err_and c.from_residual.result c.from_residual.ensures.1 in
+    rw (q.1, q.2)
+    (steps_act g.D.Reader.past g.D.Reader.medium c.args.self.now.device c.begin.new.self.device _ Begin begins _ _ _ _ (Err _) _ (λ v w t s. s) c.in-Begin.is refl c.in_err-begin-in-Begin.ensures.device c.in_err-begin-in-Begin.ensures.model)
 
-pub returns-in-Err : goal.returns-in-Err
-returns-in-Err g c = begin_acts g.D.Reader.past g.D.Reader.medium c.args.self.now.device c.begin.new.self.device _ _ _ _ _ (Err c.in-Err.fault) _ c.in-Begin.is refl c.in-Err.ensures.device c.in-Err.ensures.model
+pub returns-in_ok-begin-in-Begin : goal.returns-in_ok-begin-in-Begin
+returns-in_ok-begin-in-Begin g c =
+    steps_act g.D.Reader.past g.D.Reader.medium c.args.self.now.device c.begin.new.self.device _ Begin begins _ _ _ _ (Ok tt) _ (λ v w t s. s) c.in-Begin.is refl c.in_ok-begin-in-Begin.ensures.device c.in_ok-begin-in-Begin.ensures.model
 
 pub returns-in-Get : goal.returns-in-Get
-returns-in-Get g c = get_acts _ _ _ _ _ _ _ _ _ _ _ _ _ _ c.in-Get.is c.celled.ensures c.deref.ensures.value c.get.ensures.model
+returns-in-Get g c =
+    read_acts _ _ _ _ _ _ _ _ _ _ Get is_key pair_with (λ v t f. f) _ _ _ _ c.in-Get.is (mapped _ _ _ c.map-in-Get.ensures.cases) c.deref.ensures.value c.get.ensures.model
 
 pub returns-in-After : goal.returns-in-After
-returns-in-After g c = after_acts _ _ _ _ _ _ _ _ _ _ _ _ _ _ c.in-After.is c.celled-in-After.ensures c.deref-in-After.ensures.value c.after.ensures.model
+returns-in-After g c =
+    read_acts _ _ _ _ _ _ _ _ _ _ After is_short first_above (λ v t f. f) _ _ _ _ c.in-After.is (mapped _ _ _ c.map-in-After.ensures.cases) c.deref-in-After.ensures.value c.after.ensures.model
 
 pub returns-in-PowerReturn : goal.returns-in-PowerReturn
 returns-in-PowerReturn g c = return_acts _ _ _ _ _ _ _ _ _ _ c.in-PowerReturn.is refl c.power_return.ensures.shut c.power_return.ensures.device
