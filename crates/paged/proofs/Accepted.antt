@@ -3,7 +3,7 @@ use Rattle.std.proofs.Common.{◌≡◌, ℕ, ◌+◌, ◌≤◌, true, not, Lis
 use Rattle.std.specs.List.{AllByRecursion}
 use Rattle.std.proofs.lemmas.List.{length-drop, length-take-le, length-map}
 use Rattle.std.proofs.lemmas.Bool.{and_parts, false≢true}
-use Rattle.cuts.specs.Nodes.{PairFits, CellFits}
+use Rattle.cuts.specs.Nodes.{PairFits, CellFits, pair_cost, cell_cost}
 use Rattle.tree.specs.Maps.{Rising}
 use Rattle.tree.specs.Trees.{leaf_cost, branch_cost}
 use Rattle.page.specs.Branches.{ascending}
@@ -13,9 +13,9 @@ use Rattle.page.specs.Reading.{every, rising, first_fault, sound}
 use Rattle.page.specs.Views.{pairs_in, branch_in}
 use Rattle.page.specs.declared.fault.Cause.{Cause}
 use Rattle.page.proofs.Children.{page_parts}
-use Rattle.page.proofs.Cuts.{cost_total}
-use Rattle.page.proofs.Leaves.{leaf_parts_of, total_pairs}
-use Rattle.page.proofs.Branches.{key_fits, total_cells}
+use Rattle.page.specs.Goods.{leaf_parts_of, leaf_costs, branch_costs}
+use Rattle.page.proofs.Items.{items_cost}
+use Rattle.page.proofs.Branches.{key_fits}
 use Rattle.page.proofs.BranchOrders.{rising_ascending}
 use Rattle.page.proofs.Puts.{rising_pairs}
 use Rattle.page.proofs.Sounds.{sound_none}
@@ -64,7 +64,7 @@ leaf_has b h =
     record {
       rises = rising_pairs (cells_of b) c.rises;
       fit = pairs_fit (cells_of b) c.goods;
-      light = omega (arith, total_pairs (cells_of b) c.goods, cost_total (cells_of b), c.room);
+      light = omega (arith, items_cost pair_of pair_cost leaf_good leaf_costs (cells_of b) c.goods, c.room);
       few = omega (arith, length-map (cells_of b) pair_of, c.room);
     }
 
@@ -80,6 +80,6 @@ branch_has b h =
     record {
       rises = sym (rising_ascending (cells_of b)) ∙ c.rises;
       fit = cells_fit (cells_of b) c.goods;
-      light = omega (arith, total_cells (cells_of b) c.goods, cost_total (cells_of b), c.room);
+      light = omega (arith, items_cost cell_of cell_cost branch_good branch_costs (cells_of b) c.goods, c.room);
       few = omega (arith, length-map (cells_of b) cell_of, c.room);
     }

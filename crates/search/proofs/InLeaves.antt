@@ -14,7 +14,7 @@ use Rattle.page.specs.Places.{up_to}
 use Rattle.page.specs.Reading.{layout, rising, shape_fault, first_fault, sound}
 use Rattle.page.specs.Views.{pairs_in, leaf_pairs, key_of, key_at, value_at, FindsKey}
 use Rattle.page.specs.declared.fault.Cause.TheVariants.{Checksum, Kind, Layout, Order}
-use Rattle.page.specs.declared.leaf.LeafPage.{LeafPage}
+use Rattle.page.specs.CellPages.{LeafPage}
 use Rattle.page.proofs.Puts.{rising_pairs}
 use Rattle.search.specs.Finding.{pair_with, pair_at}
 use Rattle.search.specs.Following.{InLeaf}

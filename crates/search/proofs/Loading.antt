@@ -13,10 +13,10 @@ use Rattle.page.specs.Kinds.{Rules, leaf_rules, branch_rules}
 use Rattle.page.specs.Loads.{Loads}
 use Rattle.page.specs.Reading.{first_fault}
 use Rattle.page.specs.Views.{pairs_in, branch_in}
-use Rattle.page.specs.declared.branch.BranchPage.{BranchPage}
+use Rattle.page.specs.CellPages.{BranchPage}
 use Rattle.page.specs.declared.fault.PageFault.{PageFault}
 use Rattle.page.specs.declared.fault.PageFault.TheVariants.{Device, Damaged}
-use Rattle.page.specs.declared.leaf.LeafPage.{LeafPage}
+use Rattle.page.specs.CellPages.{LeafPage}
 use Rattle.paged.specs.Paged.{PagedTree, root_page, pages_of, bare, as_tree, pairs_on, Lies}
 use Rattle.search.specs.declared.Place.{Place}
 use Rattle.search.specs.declared.Tree.{Tree}

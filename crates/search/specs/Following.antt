@@ -9,7 +9,7 @@ use Rattle.tree.specs.Maps.{pair}
 use Rattle.tree.specs.Trees.{Tree as TreeValue}
 use Rattle.tree.specs.Search.{child_at, find, after}
 use Rattle.page.specs.declared.fault.PageFault.{PageFault}
-use Rattle.page.specs.declared.leaf.LeafPage.{LeafPage}
+use Rattle.page.specs.CellPages.{LeafPage}
 use Rattle.paged.specs.Paged.{PagedTree, bare}
 use Rattle.search.specs.declared.Place.{Place}
 use Rattle.search.specs.declared.Tree.{Tree}

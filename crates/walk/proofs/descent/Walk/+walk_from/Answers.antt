@@ -5,9 +5,9 @@ use Rattle.device.specs.Medium.{Medium}
 use Rattle.device.specs.History.{History}
 use Rattle.device.specs.Looking.{Looks, pages_read}
 use Rattle.page.specs.Kinds.{leaf_rules}
-use Rattle.page.specs.declared.branch.BranchPage.{BranchPage}
+use Rattle.page.specs.CellPages.{BranchPage}
 use Rattle.page.specs.declared.fault.PageFault.{PageFault}
-use Rattle.page.specs.declared.leaf.LeafPage.{LeafPage}
+use Rattle.page.specs.CellPages.{LeafPage}
 use Rattle.page.specs.Views.{branch_node}
 use Rattle.paged.specs.Walk.{leaf_fault, branch_fault, slots_of, walk}
 use Rattle.paged.proofs.Accepted.{none_of, leaf_has}
