@@ -74,7 +74,7 @@ module _ (m : Medium) (s : State) (b : Held) (want : List Pair → Option Pair) 
 
   -- what the search says of the tree
   module _ (n : Medium) (x : Meta) (height : ℕ) (fits : Bool) (r : Result (Option Place) PageFault) (e : version_of s ≡ Some x) (f : fits ≡ true) (g : height ≡ height_of x)
-      (k : Keeps m n) (found : Finds m n.on x.root height want r) (h : Sound m s b) where
+      (k : Keeps m n) (found : Finds m n.on (record { root = x.root; height = height }) want r) (h : Sound m s b) where
     searched : Answers m.bytes (height_of x) (tree_of m.bytes x) n.on (want (pairs_held m.bytes x)) r
     searched = let v = version_stands m s b x e h in found (height_of x) (tree_of m.bytes x) g (standing m x v.0 v.1) v.1.tree.sound
 
@@ -139,7 +139,7 @@ module _ (P : History → Type 0) (m : Medium) (s : State) (b : Held) (want : Li
   at_length x e f = looks_none _ (λ _ _ h. length_refused m s b want x m.on fits (version_is s x e) f h)
 
   module _ (Q : History → Type 0) (n : Medium) (x : Meta) (height : ℕ) (r : Result (Option Place) PageFault) (z : State) (e : Ok x ≡ version_in s) (f : fits ≡ true) (g : height ≡ height_of x)
-      (l : Searches P m Q n x.root height want r) (y : z ≡ shut_if_off r s) where
+      (l : Searches P m Q n (record { root = x.root; height = height }) want r) (y : z ≡ shut_if_off r s) where
     pub at_fault : (q : PageFault) → r ≡ Err q → Reading Q n z (Err (Page q)) zeros
     at_fault q i = looks_keep _ _ l (λ _ k w h. rw y (fault_handed m s b want n x height fits r (version_is s x e) f g k w h q i))
 

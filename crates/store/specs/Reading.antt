@@ -17,6 +17,7 @@ use Rattle.meta.specs.declared.Meta.{Meta}
 use Rattle.faults.specs.declared.fault.StoreFault.{StoreFault}
 use Rattle.search.specs.Finding.{pair_at, leaf_pages, Searches}
 use Rattle.search.specs.declared.Place.{Place}
+use Rattle.search.specs.declared.Tree.{Tree}
 use Rattle.store.specs.Model.{Model, Stepped, reads}
 use Rattle.store.specs.Snapshots.{Snapshot, snapshot, IsSound, model_at}
 use Rattle.store.specs.States.{version_in}
@@ -68,10 +69,10 @@ abbrev pub ReadsOut : {D : Type 0} → Ghosts D → Store D → Store D → (fit
 ReadsOut r s z fits want a buffer =
     Looks (r.past s.device) (r.medium s.device) (r.past z.device) (r.medium z.device) (λ _. HandsIfSound (snapshot r s) (snapshot r z) fits want a buffer)
 
--- Each call of the search, of which `post` tells, searches the tree from its page on for what is wanted.
-abbrev pub Seeks : {D : Type 0} → Ghosts D → (MutBor D → (root height : ℕ) → Result (Option Place) PageFault → MutBor D → Type 0) → (List Pair → Option Pair) → Type 0
-Seeks {D} r post want = (d e : MutBor D) (root height : ℕ) (a : Result (Option Place) PageFault)
-    → post d root height a e → Searches (r.past d.now) (r.medium d.now) (r.past e.now) (r.medium e.now) root height want a
+-- Each call of the search, of which `post` tells, searches its tree for what is wanted.
+abbrev pub Seeks : {D : Type 0} → Ghosts D → (MutBor D → Tree → Result (Option Place) PageFault → MutBor D → Type 0) → (List Pair → Option Pair) → Type 0
+Seeks {D} r post want = (d e : MutBor D) (tree : Tree) (a : Result (Option Place) PageFault)
+    → post d tree a e → Searches (r.past d.now) (r.medium d.now) (r.past e.now) (r.medium e.now) tree want a
 
 -- the state after a search
 abbrev pub shut_if_off : Result (Option Place) PageFault → State → State

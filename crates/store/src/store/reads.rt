@@ -10,7 +10,7 @@ use crate::store::Store;
 use device::{Device, PAGE_SIZE, Page};
 use faults::StoreFault;
 use page::PageFault;
-use search::{Place, after, find};
+use search::{Place, Tree};
 
 // The most bytes that a key has.
 const LONGEST_KEY: usize = 64;
@@ -34,7 +34,7 @@ impl<D: Device> Store<D> {
     // `fits` says whether the key's length does.
     fn look_up<F>(&mut self, fits: bool, search: F, buffer: &mut Page) -> Result<usize, StoreFault>
     where
-        F: FnOnce(&mut D, u32, u8) -> Result<Option<Place>, PageFault>,
+        F: FnOnce(&mut D, Tree) -> Result<Option<Place>, PageFault>,
         requires { F.IsAlwaysCallable search }
         ensures cleared { OnErr result (buffer.new ≡ zeros) }
         ensures model { (want : List Pair → Option Pair) → Seeks D.Reader (F.post search) want → ReadsOut D.Reader self.old self.new fits want result buffer.new }
@@ -44,7 +44,11 @@ impl<D: Device> Store<D> {
         if !fits {
             return Err(StoreFault::KeyLength);
         }
-        let found = search(&mut self.device, meta.root, meta.levels.saturating_sub(1));
+        let tree = Tree {
+            root: meta.root,
+            height: meta.levels.saturating_sub(1),
+        };
+        let found = search(&mut self.device, tree);
         self.state.shut_if_off(&found);
         let Some(place) = found? else {
             return Err(StoreFault::Absent);
@@ -60,7 +64,7 @@ impl<D: Device> Store<D> {
     {
         self.look_up(
             is_key(key),
-            |device, root, height| find(device, root, height, key),
+            |device, tree| tree.find(device, key),
             buffer,
         )
     }
@@ -72,7 +76,7 @@ impl<D: Device> Store<D> {
     {
         self.look_up(
             is_short(key),
-            |device, root, height| after(device, root, height, key),
+            |device, tree| tree.after(device, key),
             buffer,
         )
     }
