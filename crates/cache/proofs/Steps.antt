@@ -1,14 +1,24 @@
 -- Steps of a cache: f gives the copy of each page before the step, and g after it.
-use Rattle.std.proofs.Common.{◌≡◌, ℕ, ◌<◌, Bool, true, false, List, is_some, Some, None, Ok, Err, Option, Result, sym, refl, ap, ◌∙◌, subst, ⊎_elim}
+use Rattle.std.proofs.Common.{◌≡◌, ℕ, ◌<◌, Bool, true, false, ◌||◌, List, is_some, Some, None, Ok, Err, Option, Result, sym, refl, ap, ◌∙◌, subst, ⊎_elim}
 use Rattle.std.proofs.lemmas.Bool.{cases_eq, eq-eqb, ne_eqb, both_ways, or_parts, or_from}
 use Rattle.device.specs.Medium.{Medium}
 use Rattle.device.specs.Calls.{Keeps, KeepsBut, Writes}
+use Rattle.device.specs.History.{Event}
+use Rattle.device.specs.declared.Reader.{Ghosts}
 use Rattle.device.specs.declared.fault.DeviceFault.{DeviceFault}
 use Rattle.device.specs.declared.fault.DeviceFault.TheVariants.{Outside, Off}
 use Rattle.cache.specs.declared.copy.Copied.{Copied}
-use Rattle.cache.specs.Held.{is_changed, Replaces}
-use Rattle.cache.specs.Cached.{shown, over, Agrees}
+use Rattle.cache.specs.Held.{is_changed, Replaces, shown}
+use Rattle.cache.specs.Cached.{over, Agrees}
+use Rattle.cache.specs.declared.cache.Cache.{Cache}
+use Rattle.cache.specs.Calls.{says_off, Calls}
 use Rattle.cache.specs.Inner.{Settles}
+
+-- a call of the device below, which changes no slot; the cache remembers it if the device says that it is off
+pub record Passes {B : Type 0} (R : Ghosts B) (c : Cache B) (e : Event) (r : Result Unit DeviceFault) (d : Cache B) : Type 0 where
+  pub happens : Calls R c e d
+  pub same_slots : d.slots ≡ c.slots
+  pub learns : d.off ≡ (says_off r || c.off)
 
 pub keeps_same : (m : Medium) → Keeps m m
 keeps_same m = record { same_size = refl; same_bytes = λ p. refl; stays_durable = λ p e. e }

@@ -4,8 +4,8 @@ use Rattle.std.proofs.lemmas.Bool.{cases_eq, cases_Bool, both_ways, or_parts, or
 use Rattle.device.specs.Medium.{Medium}
 use Rattle.device.specs.Calls.{Keeps, KeepsBut}
 use Rattle.cache.specs.declared.copy.Copied.{Copied}
-use Rattle.cache.specs.Held.{has, is_changed, Replaces}
-use Rattle.cache.specs.Cached.{shown, over, Agrees}
+use Rattle.cache.specs.Held.{has, is_changed, Replaces, shown}
+use Rattle.cache.specs.Cached.{over, Agrees}
 
 pub over_keeps : (f : ℕ → Option Copied) (m n : Medium) → Keeps m n → Keeps (over f m) (over f n)
 over_keeps f m n k = record {

@@ -1,5 +1,7 @@
-use Rattle.std.proofs.Common.{refl}
+use Rattle.std.proofs.Common.{refl, rules}
 use Rattle.std.proofs.lemmas.Result.{err_from_is_err_and}
+use Rattle.device.specs.History.{did_sync}
+use Rattle.cache.proofs.Steps.{Passes}
 use Rattle.cache.proofs.Synced.{sync_refused, sync_done, syncs_lost, syncs_done}
 use Rattle.cache.proofs.cache.Cache.settle.Goals as goal
 
@@ -15,7 +17,8 @@ returns-in_err-flush_all g c =
 pub returns : goal.returns
 returns g c =
     let f = c.in_ok-flush_all.ensures in
+    let p : Passes g.D.Reader c.flush_all.new.self (did_sync c.ask.result) c.ask.result c.ask.new.self = search rules in
     record {
-      meaning = sync_done c.sync_below.result f.goes (f.cleans refl) c.sync_below.ensures;
-      exact = syncs_done c.sync_below.result f c.sync_below.ensures;
+      meaning = sync_done c.ask.result f.goes (f.cleans refl) p;
+      exact = syncs_done c.ask.result f p;
     }

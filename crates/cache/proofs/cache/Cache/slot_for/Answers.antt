@@ -5,4 +5,4 @@ pub returns-in-None : goal.returns-in-None
 returns-in-None g c = finding_new c.args.page c.room.result c.in-None.ensures c.room.ensures
 
 pub returns-in-Some : goal.returns-in-Some
-returns-in-Some g c = finding_held c.args.page c.in-Some.i c.in-Some.ensures
+returns-in-Some g c = finding_held c.args.page c.in-Some.place c.in-Some.ensures
