@@ -1,29 +1,19 @@
 -- What reading a page below does, whichever way it ends.
-use Rattle.std.proofs.Common.{◌≡◌, ℕ, ◌<◌, Bool, true, false, cond, ltb, List, None, Ok, Err, Option, Result, sym, refl, ap, ◌∙◌, subst, arith}
-use Rattle.std.proofs.lemmas.Bool.{both_ways, ltb-true}
-use Rattle.device.specs.Medium.{Medium, zeros}
-use Rattle.device.specs.History.{History, Event, Happens, did_read}
+use Rattle.std.proofs.Common.{◌≡◌, ℕ, ◌<◌, Bool, false, List, None, Ok, Err, Option, Result, sym, refl, ap, ◌∙◌, subst, arith}
+use Rattle.std.proofs.lemmas.Bool.{both_ways}
+use Rattle.device.specs.History.{Event, Happens, did_read}
 use Rattle.device.specs.declared.fault.DeviceFault.{DeviceFault}
-use Rattle.device.specs.declared.fault.DeviceFault.TheVariants.{Outside, Off}
 use Rattle.device.specs.declared.Reader.{Ghosts}
 use Rattle.cache.specs.declared.copy.Copied.{Copied}
 use Rattle.cache.specs.declared.place.Place.{Place}
 use Rattle.cache.specs.declared.cache.Cache.{Cache}
 use Rattle.cache.specs.declared.slots.Slots.{Slots}
 use Rattle.cache.specs.Held.{pages_in, is_changed, copy_of, slot_at, Replaces}
-use Rattle.cache.specs.Cached.{pages_of, over, copies_of, cache_medium, Stands, HappensTo}
+use Rattle.cache.specs.Cached.{pages_of, over, copies_of, cache_medium, HappensTo}
 use Rattle.cache.specs.Calls.{admitted, Leaves, Tidied, Calls, Fetches, CacheReads}
-use Rattle.cache.specs.Inner.{Settles, Goes, Placed, Finding}
+use Rattle.cache.specs.Inner.{Goes, Placed, Finding}
 use Rattle.cache.proofs.Steps.{Passes, settles_more, keeps_more}
 use Rattle.cache.proofs.Takes.{over_keeps, agrees_keeps, take_read}
-
-pub admitted_ok : {B : Type 0} (R : Ghosts B) (c : Cache B) (p : ℕ) → admitted R c p ≡ Ok tt → (p < (R.medium c.below).size) × (c.off ≡ false)
-admitted_ok R c p e = go (R.medium c.below).size (ltb p (R.medium c.below).size) c.off refl refl e
-  where
-    go : (size : ℕ) (a b : Bool) → ltb p size ≡ a → c.off ≡ b → ◌≡◌ {A = Result (Unit {0}) DeviceFault} (cond a (cond b (Err Off) (Ok tt)) (Err Outside)) (Ok tt) → (p < size) × (c.off ≡ false)
-    go size true true x y z = absurd (let n : ◌≡◌ {A = ℕ} 0 1 = cc in omega arith)
-    go size true false x y z = (ltb-true p size x, y)
-    go size false b x y z = absurd (let n : ◌≡◌ {A = ℕ} 0 1 = cc in omega arith)
 
 pub goes_more : {B : Type 0} {R : Ghosts B} {c d e : Cache B} (r : Result Unit DeviceFault)
     → Goes R c (Ok tt) d → Goes R d r e → Goes R c r e
@@ -31,38 +21,6 @@ goes_more {R = R} {c = c} {d = d} {e = e} r x y = record {
   follows = λ a.
       let u = x.follows a in let v = y.follows u.1 in
       (settles_more (cache_medium R c) (cache_medium R d) (cache_medium R e) r u.0 v.0, v.1);
-}
-
--- the read below was refused
-pub lost_goes : {B : Type 0} {R : Ghosts B} {c d : Cache B} (q : ℕ) (b : List ℕ) (y : DeviceFault)
-    → Passes R c (did_read q b (Err y)) (Err y) d → Stands R c → q < (R.medium c.below).size
-    → (b ≡ zeros) × Settles (cache_medium R c) (Err y) (cache_medium R d) × Stands R d
-lost_goes q b Outside h a l = absurd (omega (arith, (h.happens.follows a.led a.is_past).0.0, l))
-lost_goes {R = R} {c = c} {d = d} q b Off h a l =
-    let w = h.happens.follows a.led a.is_past in
-    let m = R.medium c.below in let n = R.medium d.below in
-    let v = ap (λ (s : Slots). copy_of (pages_in s.all)) h.same_slots in (
-      w.0.2,
-      rw v (record { is_off = w.0.1.is_off; still = λ e. ap (over (copies_of c)) (w.0.1.still e) }, over_keeps (copies_of c) m n w.0.3),
-      record { led = _; is_past = w.1; agrees = rw (v, h.learns) (agrees_keeps (copies_of c) c.off true m n w.0.3 (λ _. w.0.1.is_off) (λ e. absurd (both_ways true e refl)) a.agrees) },
-    )
-
-pub fetch_crowded : {B : Type 0} {R : Ghosts B} {c d : Cache B} (q : ℕ) (b : List ℕ) (y : DeviceFault)
-    → q < (R.medium c.below).size → b ≡ zeros → Goes R c (Err y) d
-    → HappensTo R c (did_read q b (Err y)) d
-fetch_crowded q b Outside l z h = record { follows = λ _ a. absurd (h.follows a).0 }
-fetch_crowded q b Off l z h = record { follows = λ _ a. let u = h.follows a in ((l, u.0.0, z, u.0.1), u.1) }
-
-pub fetch_lost : {B : Type 0} {R : Ghosts B} {c d e : Cache B} (q : ℕ) (b : List ℕ) (y : DeviceFault)
-    → q < (R.medium c.below).size → Goes R c (Ok tt) d → Passes R d (did_read q b (Err y)) (Err y) e
-    → HappensTo R c (did_read q b (Err y)) e
-fetch_lost {R = R} {c = c} {d = d} {e = e} q b y l x h = record {
-  follows = λ g a.
-      let u = x.follows a in
-      let l' : q < (R.medium d.below).size = rw u.0.2.same_size l in
-      let v = lost_goes q b y h u.1 l' in
-      let s = settles_more (cache_medium R c) (cache_medium R d) (cache_medium R e) (Err y) u.0 v.1 in
-      (fetch_crowded {c = c} {d = e} q b y l v.0 (record { follows = λ _. (s, v.2) })).follows g a;
 }
 
 pub fetch_done : {B : Type 0} {R : Ghosts B} {c d e : Cache B} {t : Slots} (o : Option Copied) (k : Copied)

@@ -1,9 +1,7 @@
 -- The slot for a page.
 use Rattle.std.proofs.Common.{◌≡◌, ℕ, ◌<◌, Bool, true, false, cond, List, length, set, is_some, Some, None, Ok, Err, Option, Result, sym, refl, ap, ◌∙◌, subst, inl, inr, ⊎_elim, arith}
 use Rattle.std.proofs.lemmas.List.{get_or-set_same}
-use Rattle.std.proofs.lemmas.Bool.{both_ways, cases_Bool, cond-true, ne_eqb, eqb-true}
-use Rattle.device.specs.Medium.{Medium}
-use Rattle.device.specs.History.{History}
+use Rattle.std.proofs.lemmas.Bool.{cases_Bool}
 use Rattle.device.specs.declared.fault.DeviceFault.{DeviceFault}
 use Rattle.device.specs.declared.Reader.{Ghosts}
 use Rattle.cache.specs.Cached.{pages_of}
@@ -11,11 +9,10 @@ use Rattle.cache.specs.declared.copy.Copied.{Copied}
 use Rattle.cache.specs.declared.place.Place.{Place}
 use Rattle.cache.specs.declared.cache.Cache.{Cache}
 use Rattle.cache.specs.declared.slots.Slots.{Slots}
-use Rattle.cache.specs.Held.{pages_in, has, is_changed, copy_of, copies, slot_at, cleaned, Finds}
+use Rattle.cache.specs.Held.{pages_in, has, is_changed, copy_of, copies, slot_at, cleaned}
 use Rattle.cache.specs.Calls.{Tidied}
 use Rattle.cache.specs.Inner.{flushed, answer_of, Chosen, Rooms, Placed, Places, Finding}
 use Rattle.cache.proofs.Copies.{within_slots, copy_none, copies_none, copies_set, copy_at, copy_set_other}
-use Rattle.cache.proofs.Flushes.{goes_same}
 
 pub has_cleaned : (o : Option Copied) (p : ℕ) → has (cleaned o) p ≡ has o p
 has_cleaned None p = refl
@@ -110,28 +107,3 @@ finding_new {c = c} {d = d} q r e h = record {
         → Places (pages_of c) q (slot_at (pages_of c) h.slot.number) r (pages_of d)
     places (Ok j) x z = rw (x, z) (placed_new c.slots q h.slot e)
     places (Err y) x z = tt
-
--- the slot that has the page
-pub finding_held : {B : Type 0} {R : Ghosts B} {c : Cache B} (q : ℕ) (i : Place)
-    → Finds (pages_of c) q (Some i) → Finding R c q (Ok i) c
-finding_held {R = R} {c = c} q i f = record {
-  leaver = None;
-  leaves = record { was = λ _ z. absurd (both_ways false refl z); only_full = λ z. absurd (both_ways false refl z) };
-  goes = goes_same R c;
-  tidied = tidied_same ss ss refl;
-  places = record {
-    apart = let z = cond-true {A = ℕ} (has (slot_at ss i.number) q) 1 0 f.0 in let d = c.slots.distinct q in omega arith;
-    clean = λ p n z. absurd (both_ways (has (slot_at ss i.number) p) (other (slot_at ss i.number) p f.0 n) z);
-    misses = λ z. absurd (both_ways (has (slot_at ss i.number) q) (ap (λ (x : Option Copied). has x q) (sym f.1 ∙ z)) f.0);
-    there = λ _ z. absurd (both_ways false refl z);
-    others = λ p n _. (other (slot_at ss i.number) p f.0 n, refl);
-  };
-  quiet = λ _. (refl, refl);
-}
-  where
-    ss : List (Option Copied)
-    ss = pages_of c
-
-    other : (x : Option Copied) (p : ℕ) → has x q ≡ true → (p ≡ q → ⊥) → has x p ≡ false
-    other None p z n = refl
-    other (Some k) p z n = ne_eqb k.page p (λ y. n (sym y ∙ eqb-true k.page q z))

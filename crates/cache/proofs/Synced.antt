@@ -2,8 +2,7 @@
 use Rattle.std.proofs.Common.{◌≡◌, ℕ, zero, suc, ◌+◌, ◌<◌, ◌≤◌, true, false, List, [], ◌∷◌, length, set, None, Ok, Err, Option, Result, sym, refl, ap, ◌∙◌, subst, inl, inr, ⊎_elim, arith}
 use Rattle.std.proofs.lemmas.List.{get_or-set_same, get_or-set_other, get_or_past}
 use Rattle.std.proofs.lemmas.Bool.{both_ways, cases_Bool, cases_eq, cases_lt, cond-true, cond-false, or_from}
-use Rattle.device.specs.Medium.{Medium}
-use Rattle.device.specs.History.{History, did_sync}
+use Rattle.device.specs.History.{did_sync}
 use Rattle.device.specs.declared.fault.DeviceFault.{DeviceFault}
 use Rattle.device.specs.declared.fault.DeviceFault.TheVariants.{Outside, Off}
 use Rattle.device.specs.declared.Reader.{Ghosts}
@@ -116,10 +115,6 @@ sync_done {R = R} {c = c} {d = d} {e = e} (Err Off) x h p = sync_refused {c = c}
         record { led = _; is_past = w.1; agrees = rw (v, p.learns) (agrees_keeps f d.off true m n w.0.1 (λ _. w.0.0.is_off) (λ z. absurd (both_ways true z refl)) a.agrees) },
       );
 }))
-
-pub syncs_lost : {B : Type 0} {R : Ghosts B} {c d : Cache B} (y : DeviceFault)
-    → FlushesAll R c (Err y) d → Syncing R false c (Err y) d
-syncs_lost y f = (f.flushes, λ z. absurd (let w = (f.quiet z).0 in let n : ◌≡◌ {A = ℕ} 0 1 = cc in omega arith))
 
 pub syncs_done : {B : Type 0} {R : Ghosts B} {c d e : Cache B} (r : Result Unit DeviceFault)
     → FlushesAll R c (Ok tt) d → Passes R d (did_sync r) r e → Syncing R false c r e

@@ -1,6 +1,6 @@
 -- The medium that a cache is. In these, f gives the copy that the cache has of each page, m is the medium of the
 -- device below, and `off` is what the cache knows of the device's power.
-use Rattle.std.specs.Prelude.{◌≡◌, ℕ, ◌<◌, Bool, true, false, ◌||◌, List, is_some, Some, None, Option}
+use Rattle.std.specs.Prelude.{◌≡◌, ℕ, ◌<◌, Bool, true, false, ◌||◌, List, is_some, Option}
 use Rattle.device.specs.Medium.{Medium}
 use Rattle.device.specs.History.{History, Event, Happens}
 use Rattle.device.specs.declared.Reader.{Ghosts}

@@ -2,8 +2,8 @@
 -- and d the cache after it, over a device whose medium and past are those of R. Which page leaves a full cache is
 -- left open.
 use Rattle.std.specs.Prelude.{◌≡◌, ℕ, Bool, true, false, cond, ◌⊎◌, List, replicate, is_some, Some, None, Ok, Err, Option, Result, nat_lt}
-use Rattle.device.specs.Medium.{Medium, zeros}
-use Rattle.device.specs.History.{History, Event, Happens, did_read, did_sync, power_returned}
+use Rattle.device.specs.Medium.{zeros}
+use Rattle.device.specs.History.{Event, Happens, did_read, did_sync, power_returned}
 use Rattle.device.specs.declared.Reader.{Ghosts}
 use Rattle.device.specs.declared.fault.DeviceFault.{DeviceFault}
 use Rattle.device.specs.declared.fault.DeviceFault.TheVariants.{Outside, Off}

@@ -1,7 +1,6 @@
 -- What the steps do of which the cache's calls are made.
-use Rattle.std.specs.Prelude.{◌≡◌, ℕ, ◌<◌, ◌≤◌, true, false, cond, ◌||◌, List, is_some, is_ok, None, Ok, Err, Option, Result, ◌≢◌, slice_set}
+use Rattle.std.specs.Prelude.{◌≡◌, ℕ, ◌<◌, ◌≤◌, true, false, cond, List, is_some, is_ok, None, Ok, Err, Option, Result, ◌≢◌, slice_set}
 use Rattle.device.specs.Medium.{Medium, zeros}
-use Rattle.device.specs.History.{History, Event, Happens}
 use Rattle.device.specs.Calls.{Keeps, IsOff}
 use Rattle.device.specs.declared.Reader.{Ghosts}
 use Rattle.device.specs.declared.fault.DeviceFault.{DeviceFault}
@@ -10,7 +9,7 @@ use Rattle.cache.specs.declared.copy.Copied.{Copied}
 use Rattle.cache.specs.declared.place.Place.{Place}
 use Rattle.cache.specs.declared.cache.Cache.{Cache}
 use Rattle.cache.specs.Held.{has, is_changed, copy_of, copies, slot_at, Full, cleaned}
-use Rattle.cache.specs.Calls.{says_off, Leaves, Tidied, Clean, Flushed}
+use Rattle.cache.specs.Calls.{Leaves, Tidied, Clean, Flushed}
 use Rattle.cache.specs.Cached.{pages_of, cache_medium, Stands}
 
 -- the slots after slot i was written below, or was not

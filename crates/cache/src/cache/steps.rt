@@ -12,7 +12,7 @@ use crate::place::Place;
 use crate::slots::SLOTS;
 use device::{Device, DeviceFault, PAGE_SIZE, Page, Reader};
 
-// A page of a device.
+// A page of a device, as a value: of a buffer that a closure writes to, the proof of its caller would learn nothing.
 pub(super) fn read_page<R: Reader>(device: &mut R, page: u32) -> Result<Page, DeviceFault>
     ensures { Happens (R.past device.old) (R.medium device.old) (did_read page (bytes_in result) (answer_of result)) (R.past device.new) (R.medium device.new) }
 {

@@ -6,30 +6,22 @@ use Rattle.cache.specs.declared.copy.Copied.{Copied}
 use Rattle.cache.specs.Held.{slot_at, copy_of, pages_in, Replaces}
 use Rattle.cache.specs.Cached.{pages_of}
 use Rattle.cache.proofs.Steps.{Passes}
-use Rattle.cache.proofs.Fetched.{admitted_ok, fetch_crowded, fetch_lost, fetches_crowded, fetches_lost, fetches_done, placed_there}
+use Rattle.cache.proofs.Fetched.{fetches_crowded, fetches_lost, fetches_done, placed_there}
 use Rattle.cache.proofs.Places.{finding_new}
 use Rattle.cache.proofs.cache.Cache.fetch.Goals as goal
 
-pub returns-in_err-place : goal.returns-in_err-place
-returns-in_err-place g c =
+pub returns-in_err-place-clause-fetches : goal.returns-in_err-place-clause-fetches
+returns-in_err-place-clause-fetches g c =
     let q = err_from_is_err_and c.from_residual.result c.from_residual.ensures.1 in
     let h = c.in_err-place.ensures in
-    let l = (admitted_ok g.D.Reader c.args.self.now c.args.page c.requires.admits).0 in
-    record {
-      meaning = rw (q.1, q.2) (fetch_crowded _ _ _ l refl h.goes);
-      fetches = rw (q.1, q.2) (fetches_crowded _ _ _ (finding_new _ _ c.requires.misses h));
-    }
+    rw (q.1, q.2) (fetches_crowded _ _ _ (finding_new _ _ c.requires.misses h))
 
-pub returns-in_err-bytes : goal.returns-in_err-bytes
-returns-in_err-bytes g c =
+pub returns-in_err-bytes-clause-fetches : goal.returns-in_err-bytes-clause-fetches
+returns-in_err-bytes-clause-fetches g c =
     let q = err_from_is_err_and c.from_residual-in_err-bytes.result c.from_residual-in_err-bytes.ensures.1 in
     let h = c.in_ok-place.ensures in
-    let l = (admitted_ok g.D.Reader c.args.self.now c.args.page c.requires.admits).0 in
     let p : Passes g.D.Reader c.room.new.self (did_read c.args.page zeros (Err c.in_err-bytes.field-0.0)) (Err c.in_err-bytes.field-0.0) c.ask.new.self = search rules in
-    record {
-      meaning = rw (q.1, q.2) (fetch_lost _ _ _ l h.goes p);
-      fetches = rw (q.1, q.2) (fetches_lost _ _ _ _ (finding_new _ _ c.requires.misses h) p);
-    }
+    rw (q.1, q.2) (fetches_lost _ _ _ _ (finding_new _ _ c.requires.misses h) p)
 
 pub put-requires : goal.put-requires
 put-requires g c =

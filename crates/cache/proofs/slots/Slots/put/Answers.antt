@@ -1,5 +1,5 @@
-use Rattle.std.proofs.Common.{◌≡◌, length, sym, subst, arith}
-use Rattle.cache.specs.Held.{pages_in, Distinct, Sized}
+use Rattle.std.proofs.Common.{sym, subst, arith}
+use Rattle.cache.specs.Held.{Distinct}
 use Rattle.cache.proofs.Copies.{within_pages, pages_put, distinct_set, replaces_put, sized_set}
 use Rattle.cache.proofs.slots.Slots.put.Goals as goal
 
