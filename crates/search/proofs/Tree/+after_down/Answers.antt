@@ -2,7 +2,7 @@ use Rattle.std.proofs.Common.{◌∙◌, arith}
 use Rattle.std.proofs.lemmas.Result.{err_from_is_err_and}
 use Rattle.page.specs.Views.{branch_in}
 use Rattle.search.specs.Following.{find_next}
-use Rattle.search.proofs.Parts.{picked_length}
+use Rattle.tree.proofs.ByPlace.{picked_within}
 use Rattle.search.proofs.Loading.{leaf_refused, branch_refused, load_leaf, next_failed, next_found, next_nowhere, next_beside}
 use Rattle.search.proofs.Tree.+after_down.Goals as goal
 
@@ -42,5 +42,5 @@ pub returns : goal.returns
 returns g t c =
     next_beside c.in_ok-branch.branch c.args.self c.place-i.result c.under.result c.args.key.now c.if-self-eq0.false c.in_ok-branch.ensures c.place-i.ensures c.under.ensures
     c.in_ok-place.field-0 c.in_ok-place.ensures c.under-2.result c.after_down-2.result c.in_default.is
-    (omega (arith, c.place-i.ensures, c.len.ensures, c.if-i-len.false, picked_length c.args.key.now (branch_in c.in_ok-branch.branch.bytes).rest))
+    (omega (arith, c.place-i.ensures, c.len.ensures, c.if-i-len.false, picked_within c.args.key.now (branch_in c.in_ok-branch.branch.bytes).rest))
     c.under-2.ensures c.after_down-2.ensures
