@@ -11,9 +11,9 @@ use Rattle.page.specs.Kinds.{Rules, leaf_rules, branch_rules, leaf_good, branch_
 use Rattle.page.specs.Layout.{cost, cells_of}
 use Rattle.page.specs.Reading.{every, rising, first_fault, sound}
 use Rattle.page.specs.Views.{pairs_in, branch_in}
-use Rattle.page.specs.declared.branch.BranchPage.{BranchPage}
+use Rattle.page.specs.CellPages.{BranchPage}
 use Rattle.page.specs.declared.fault.Cause.{Cause}
-use Rattle.page.specs.declared.leaf.LeafPage.{LeafPage}
+use Rattle.page.specs.CellPages.{LeafPage}
 use Rattle.page.proofs.Children.{page_parts}
 use Rattle.page.specs.Goods.{leaf_parts_of, leaf_costs, branch_costs}
 use Rattle.page.proofs.Items.{items_cost}

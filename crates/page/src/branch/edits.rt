@@ -40,7 +40,8 @@ impl Splice<'_, BranchCell> {
         self.middle_cut()
     }
 
-    // The cells as one branch, or as two where they are too many for one.
+    // The cells as one branch, or as two where they are too many for one. Not one function with that of leaves: they cut by
+    // other rules, and what a leaf has to make for a separator is a cell that a branch gives up.
     fn branches(&self, leftmost: u32) -> Grown<BranchPage>
         requires { cost (cells_in self.now) ≤ 691 }
         ensures { branch_grown result ≡ fitted_branch (branch leftmost (map cell_of (cells_in self.now))) }
