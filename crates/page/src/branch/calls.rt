@@ -45,7 +45,7 @@ impl CellPage<BranchCell> {
             return None;
         }
         let base = self.with_child(i, page)?;
-        Some(base.without_cell(i))
+        Some(base.without(i))
     }
 
     // The branch with two pages and another separator between them for child i and the next: one page, or two;
