@@ -4,72 +4,74 @@
 use cache::Cache;
 use device::{Device, DeviceFault, Reader};
 use disks::WriteBehind;
+use std::iter::once;
 
 const PAGES: u32 = 16;
 
 const TURNS: u32 = 100;
 
+// A call of a device, a page by its number. A value, since a closure could be called on one type of device only.
 #[derive(Clone, Copy)]
-enum Workload {
-    // reads of so many pages in turn
-    Reads(u32),
-    // writes to so many pages in turn, and a sync
-    Writes(u32),
-    // a walk down three pages to one of so many leaves, as a search in a tree does
-    Searches(u32),
+enum Call {
+    Read(u32),
+    Write(u32),
+    Sync,
 }
 
-impl Workload {
-    fn name(self) -> &'static str {
+impl Call {
+    fn make<D: Device>(self, device: &mut D) -> Result<(), DeviceFault> {
         match self {
-            Workload::Reads(1) => "100 reads of one page",
-            Workload::Reads(8) => "100 reads of 8 pages in turn",
-            Workload::Reads(_) => "100 reads of 9 pages in turn",
-            Workload::Writes(_) => "100 writes to 4 pages in turn, and a sync",
-            Workload::Searches(_) => "100 searches through 3 pages to one of 5 leaves",
-        }
-    }
-
-    fn run<D: Device>(self, device: &mut D) -> Result<(), DeviceFault> {
-        let mut buffer = [0; 512];
-        for turn in 0..TURNS {
-            match self {
-                Workload::Reads(pages) => device.read(turn % pages.max(1), &mut buffer)?,
-                Workload::Writes(pages) => device.write(turn % pages.max(1), &[7; 512])?,
-                Workload::Searches(leaves) => {
-                    device.read(0, &mut buffer)?;
-                    device.read(1, &mut buffer)?;
-                    device.read(2, &mut buffer)?;
-                    device.read(3 + turn % leaves.max(1).min(9), &mut buffer)?;
-                }
-            }
-        }
-        match self {
-            Workload::Writes(_) => device.sync(),
-            _ => Ok(()),
+            Call::Read(page) => device.read(page, &mut [0; 512]),
+            Call::Write(page) => device.write(page, &[7; 512]),
+            Call::Sync => device.sync(),
         }
     }
 }
 
-fn show(rt: &HostRuntime, workload: Workload) -> anyhow::Result<()> {
+fn make_all<D: Device>(calls: &[Call], device: &mut D) -> Result<(), DeviceFault> {
+    calls.iter().try_for_each(|call| call.make(device))
+}
+
+fn show(rt: &HostRuntime, name: &str, calls: &[Call]) -> anyhow::Result<()> {
     let mut bare = WriteBehind::new(rt.alloc(), PAGES, 0)?;
-    workload.run(&mut bare)?;
+    make_all(calls, &mut bare)?;
     let mut cache = Cache::new(WriteBehind::new(rt.alloc(), PAGES, 0)?);
-    workload.run(&mut cache)?;
-    let name = workload.name();
+    make_all(calls, &mut cache)?;
     let without = bare.calls();
     let with = cache.below().calls();
     println!(rt; "{name:<48}  {without:>7}  {with:>4}")?;
     Ok(())
 }
 
+// Reads of so many pages in turn.
+fn reads(rt: &HostRuntime, pages: u32) -> anyhow::Result<Vec<Call>> {
+    Ok(
+        (0..TURNS)
+            .map(|turn| Call::Read(turn % pages.max(1)))
+            .collect(rt.alloc())?,
+    )
+}
+
 fn run(rt: &HostRuntime) -> anyhow::Result<()> {
     println!(rt; "calls of the device                               without  with cache")?;
-    show(rt, Workload::Reads(1))?;
-    show(rt, Workload::Reads(8))?;
-    show(rt, Workload::Reads(9))?;
-    show(rt, Workload::Writes(4))?;
-    show(rt, Workload::Searches(5))
+    show(rt, "100 reads of one page", &reads(rt, 1)?)?;
+    show(rt, "100 reads of 8 pages in turn", &reads(rt, 8)?)?;
+    show(rt, "100 reads of 9 pages in turn", &reads(rt, 9)?)?;
+    let writes: Vec<Call> = (0..TURNS)
+        .map(|turn| Call::Write(turn % 4))
+        .chain(once(Call::Sync))
+        .collect(rt.alloc())?;
+    show(rt, "100 writes to 4 pages in turn, and a sync", &writes)?;
+    // as a search in a tree walks down to a leaf
+    let searches: Vec<Call> = (0..TURNS)
+        .flat_map(|turn| [0, 1, 2, 3 + turn % 5])
+        .map(Call::Read)
+        .collect(rt.alloc())?;
+    show(
+        rt,
+        "100 searches through 3 pages to one of 5 leaves",
+        &searches,
+    )
 }
 
 fn main(rt: HostRuntime) -> anyhow::Result<()> {

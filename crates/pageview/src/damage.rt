@@ -1,102 +1,81 @@
 // What reading a page finds when one of its bits is wrong.
-use device::Page;
-use page::{BranchPage, Cause, LeafPage};
+use device::{PAGE_SIZE, Page};
+use page::Cause;
+use std::alloc::{AllocError, Global};
 
+// What reading finds first where one bit is turned.
 #[derive(Clone, Copy)]
-enum Kind {
-    Leaf,
-    Branch,
+struct Found {
+    // with the other bytes as they are
+    bare: Option<Cause>,
+    // with the checksum made right
+    sealed: Option<Cause>,
 }
 
-impl Kind {
-    // The cause that reading a page of this kind finds first.
-    fn cause(self, page: &Page) -> Option<Cause> {
-        match self {
-            Kind::Leaf => match LeafPage::read(page) {
-                Ok(_) => None,
-                Err(cause) => Some(cause),
-            },
-            Kind::Branch => match BranchPage::read(page) {
-                Ok(_) => None,
-                Err(cause) => Some(cause),
-            },
-        }
-    }
+// What is found for each byte with its lowest bit turned.
+fn find<F: Fn(&Page) -> Option<Cause>>(
+    alloc: Global,
+    page: &Page,
+    cause: F,
+) -> Result<Vec<Found>, AllocError>
+    requires { F.IsAlwaysCallable cause }
+{
+    (0..PAGE_SIZE)
+        .map(|i| {
+            let mut turned = *page;
+            turned[i] ^= 1;
+            let bare = cause(&turned);
+            checksum::seal(&mut turned);
+            let sealed = cause(&turned);
+            Found { bare, sealed }
+        })
+        .collect(alloc)
 }
 
-// How often each cause was found.
-#[derive(Clone, Copy)]
-struct Counts {
-    checksum: u64,
-    kind: u64,
-    layout: u64,
-    order: u64,
-    // a cause that one page alone does not show
-    other: u64,
-    none: u64,
-}
-
-impl Counts {
-    fn new() -> Counts {
-        Counts {
-            checksum: 0,
-            kind: 0,
-            layout: 0,
-            order: 0,
-            other: 0,
-            none: 0,
-        }
-    }
-
-    fn add(&mut self, cause: Option<Cause>) {
-        let count = match cause {
-            Some(Cause::Checksum) => &mut self.checksum,
-            Some(Cause::Kind) => &mut self.kind,
-            Some(Cause::Layout) => &mut self.layout,
-            Some(Cause::Order) => &mut self.order,
-            Some(_) => &mut self.other,
-            None => &mut self.none,
-        };
-        *count = count.saturating_add(1);
-    }
-}
-
-// The counts for the page with each lowest bit turned: as it is, and with the checksum made right.
-fn count(kind: Kind, page: &Page) -> (Counts, Counts) {
-    let mut bare = Counts::new();
-    let mut sealed = Counts::new();
-    for i in 0..512usize {
-        let mut turned = *page;
-        turned[i] ^= 1;
-        bare.add(kind.cause(&turned));
-        checksum::seal(&mut turned);
-        sealed.add(kind.cause(&turned));
-    }
-    (bare, sealed)
-}
-
-fn show_row(rt: &HostRuntime, cause: &str, bare: u64, sealed: u64) -> anyhow::Result<()> {
-    println!(rt; "  {cause:<15}  {bare:>8}  {sealed:>28}")?;
+// How often one of some causes was found.
+fn show_row<F: Fn(Option<Cause>) -> bool>(
+    rt: &HostRuntime,
+    name: &str,
+    found: &[Found],
+    counts: F,
+) -> anyhow::Result<()>
+    requires { F.IsAlwaysCallable counts }
+{
+    let bare = found.iter().filter(|f| counts(f.bare)).count();
+    let sealed = found.iter().filter(|f| counts(f.sealed)).count();
+    println!(rt; "  {name:<15}  {bare:>8}  {sealed:>28}")?;
     Ok(())
 }
 
-fn show(rt: &HostRuntime, name: &str, kind: Kind, page: &Page) -> anyhow::Result<()> {
-    let (bare, sealed) = count(kind, page);
+// The causes that one page alone does not show.
+fn is_other(cause: Option<Cause>) -> bool {
+    matches!(
+        cause,
+        Some(Cause::Bounds | Cause::Underfull | Cause::Child | Cause::PairCount)
+    )
+}
+
+fn show_rows(rt: &HostRuntime, found: &[Found]) -> anyhow::Result<()> {
+    show_row(rt, "checksum", found, |c| c == Some(Cause::Checksum))?;
+    show_row(rt, "kind", found, |c| c == Some(Cause::Kind))?;
+    show_row(rt, "layout", found, |c| c == Some(Cause::Layout))?;
+    show_row(rt, "order", found, |c| c == Some(Cause::Order))?;
+    show_row(rt, "any other", found, is_other)?;
+    show_row(rt, "none (accepted)", found, |c| c.is_none())
+}
+
+// A table of the causes that reading a page of its kind finds.
+pub fn show<F: Fn(&Page) -> Option<Cause>>(
+    rt: &HostRuntime,
+    name: &str,
+    page: &Page,
+    cause: F,
+) -> anyhow::Result<()>
+    requires { F.IsAlwaysCallable cause }
+{
+    let found = find(rt.alloc(), page, cause)?;
     println!(rt)?;
     println!(rt; "{name}")?;
     println!(rt; "  cause            as it is  with the checksum made right")?;
-    show_row(rt, "checksum", bare.checksum, sealed.checksum)?;
-    show_row(rt, "kind", bare.kind, sealed.kind)?;
-    show_row(rt, "layout", bare.layout, sealed.layout)?;
-    show_row(rt, "order", bare.order, sealed.order)?;
-    show_row(rt, "any other", bare.other, sealed.other)?;
-    show_row(rt, "none (accepted)", bare.none, sealed.none)
-}
-
-pub fn show_leaf(rt: &HostRuntime, name: &str, page: &Page) -> anyhow::Result<()> {
-    show(rt, name, Kind::Leaf, page)
-}
-
-pub fn show_branch(rt: &HostRuntime, name: &str, page: &Page) -> anyhow::Result<()> {
-    show(rt, name, Kind::Branch, page)
+    show_rows(rt, &found)
 }

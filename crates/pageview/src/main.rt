@@ -1,23 +1,19 @@
 // Shows the bytes of small pages, each as a table, and what reading a page finds when one of its bits is wrong.
 #![tactic(auto)]
 
-use anyhow::anyhow;
+use anyhow::{Context, bail};
 use device::Page;
 use meta::Meta;
 use page::{BranchPage, Grown, LeafPage};
 
 mod damage;
-mod decode;
 mod tables;
 
 // The leaf with one pair more, which has to fit.
 fn put(leaf: &LeafPage, key: &[u8], value: &[u8]) -> anyhow::Result<LeafPage> {
-    let Some(grown) = leaf.put(key, value) else {
-        return Err(anyhow!("no such pair can be put"));
-    };
-    match grown {
+    match leaf.put(key, value).context("no such pair can be put")? {
         Grown::One(leaf) => Ok(leaf),
-        Grown::Two(_, _, _) => Err(anyhow!("the leaf is full")),
+        Grown::Two(..) => bail!("the leaf is full"),
     }
 }
 
@@ -28,21 +24,20 @@ fn three_pairs() -> anyhow::Result<LeafPage> {
 }
 
 fn three_children() -> anyhow::Result<BranchPage> {
-    let Some(root) = BranchPage::root(5, b"cab13", 6) else {
-        return Err(anyhow!("no such root can be made"));
-    };
-    let Some(grown) = root.insert(1, 6, b"tr", 9) else {
-        return Err(anyhow!("no such child can be put"));
-    };
-    match grown {
+    let root = BranchPage::root(5, b"cab13", 6).context("no such root can be made")?;
+    let grown = root.insert(1, 6, b"tr", 9);
+    match grown.context("no such child can be put")? {
         Grown::One(branch) => Ok(branch),
-        Grown::Two(_, _, _) => Err(anyhow!("the branch is full")),
+        Grown::Two(..) => bail!("the branch is full"),
     }
 }
 
+// The pages of the device that the meta page is for.
+const PAGES: u32 = 16;
+
 fn seventh_commit() -> Page {
     let meta = Meta {
-        pages: 16,
+        pages: PAGES,
         root: 9,
         commit: 7,
         pairs: 3,
@@ -67,7 +62,7 @@ fn show_pages(rt: &HostRuntime, leaf: &LeafPage, branch: &BranchPage) -> anyhow:
     tables::show_leaf(rt, "a leaf with no pairs", &LeafPage::empty())?;
     tables::show_leaf(rt, "a leaf with three pairs", leaf)?;
     tables::show_branch(rt, "a branch with three children", branch)?;
-    tables::show_meta(rt, "the meta page of commit 7", &seventh_commit())
+    tables::show_meta(rt, "the meta page of commit 7", &seventh_commit(), 1, PAGES)
 }
 
 fn show_damage(rt: &HostRuntime, leaf: &LeafPage, branch: &BranchPage) -> anyhow::Result<()> {
@@ -75,8 +70,15 @@ fn show_damage(rt: &HostRuntime, leaf: &LeafPage, branch: &BranchPage) -> anyhow
     println!(rt;
         "The lowest bit of each of the 512 bytes is turned, one at a time. What reading the page then finds first:"
     )?;
-    damage::show_leaf(rt, "the leaf with three pairs", leaf.bytes())?;
-    damage::show_branch(rt, "the branch with three children", branch.bytes())?;
+    damage::show(rt, "the leaf with three pairs", leaf.bytes(), |page| {
+        LeafPage::read(page).err()
+    })?;
+    damage::show(
+        rt,
+        "the branch with three children",
+        branch.bytes(),
+        |page| { BranchPage::read(page).err() },
+    )?;
     println!(rt)?;
     println!(rt;
         "Accepted are the four bytes of the checksum, which making it right turns back, and bytes of keys, values,"

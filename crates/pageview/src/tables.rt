@@ -1,38 +1,36 @@
 // A table for each kind of page.
-use crate::decode::{pair, text, word16, word32, word64};
-use anyhow::anyhow;
+use anyhow::Context;
+use checksum::Kind;
 use device::Page;
+use meta::Meta;
 use page::{BranchPage, LeafPage};
 
-fn kind_name(kind: u8) -> &'static str {
-    match kind {
-        1 => "leaf",
-        2 => "branch",
-        3 => "meta",
-        _ => "none",
-    }
+fn text(bytes: &[u8]) -> &str {
+    std::str::from_utf8(bytes).unwrap_or("(no text)")
 }
 
 fn show_kind(rt: &HostRuntime, name: &str, page: &Page) -> anyhow::Result<()> {
-    let kind = page[0];
-    let kind_name = kind_name(kind);
+    let byte = page[0];
     println!(rt)?;
     println!(rt; "{name}")?;
-    println!(rt; "  byte  0      kind            {kind} ({kind_name})")?;
+    match Kind::try_from(byte) {
+        Ok(kind) => println!(rt; "  byte  0      kind            {byte} ({kind})")?,
+        Err(_) => println!(rt; "  byte  0      kind            {byte} (none)")?,
+    }
     Ok(())
 }
 
 fn show_checksum(rt: &HostRuntime, page: &Page) -> anyhow::Result<()> {
-    let sum = word32(&page[12..16]);
+    let sum = u32::from_le_bytes(page[12..16].try_into().unwrap());
     println!(rt; "  bytes 12-15  checksum        {sum:08x}")?;
     Ok(())
 }
 
 // What leaves and branches have before their cells.
 fn show_head(rt: &HostRuntime, name: &str, page: &Page) -> anyhow::Result<()> {
-    let cells = word16(&page[2..4]);
-    let lowest = word16(&page[4..6]);
-    let leftmost = word32(&page[8..12]);
+    let cells = u16::from_le_bytes(page[2..4].try_into().unwrap());
+    let lowest = u16::from_le_bytes(page[4..6].try_into().unwrap());
+    let leftmost = u32::from_le_bytes(page[8..12].try_into().unwrap());
     show_kind(rt, name, page)?;
     println!(rt; "  bytes 2-3    cells           {cells}")?;
     println!(rt; "  bytes 4-5    lowest offset   {lowest}")?;
@@ -40,53 +38,59 @@ fn show_head(rt: &HostRuntime, name: &str, page: &Page) -> anyhow::Result<()> {
     show_checksum(rt, page)
 }
 
-pub fn show_leaf(rt: &HostRuntime, name: &str, leaf: &LeafPage) -> anyhow::Result<()> {
-    let page = leaf.bytes();
+// A page of cells: what stands before them, and of each cell where it begins and what it says.
+fn show_cells<F: Fn(usize) -> anyhow::Result<String>>(
+    rt: &HostRuntime,
+    name: &str,
+    page: &Page,
+    cells: usize,
+    says: F,
+) -> anyhow::Result<()>
+    requires { F.IsAlwaysCallable says }
+{
     show_head(rt, name, page)?;
-    for offset in page[16..].chunks_exact(2).take(leaf.len()) {
-        let at = word16(offset);
-        let Some(cell) = page.get(at..) else {
-            return Err(anyhow!("a cell lies outside its page"));
-        };
-        let Some((key, value)) = pair(cell) else {
-            return Err(anyhow!("a cell is cut off"));
-        };
-        let key = text(key);
-        let value = text(value);
-        println!(rt; "  cell at {at}: \"{key}\" -> \"{value}\"")?;
+    let (offsets, _) = page[16..].as_chunks::<2>();
+    for (i, offset) in offsets.iter().take(cells).enumerate() {
+        let at = u16::from_le_bytes(*offset);
+        let cell = says(i)?;
+        println!(rt; "  cell at {at}: {cell}")?;
     }
     Ok(())
+}
+
+pub fn show_leaf(rt: &HostRuntime, name: &str, leaf: &LeafPage) -> anyhow::Result<()> {
+    show_cells(rt, name, leaf.bytes(), leaf.len(), |i| {
+        let key = text(leaf.key(i).context("a key is missing")?);
+        let value = text(leaf.value(i).context("a value is missing")?);
+        Ok(format!(in rt.alloc(); "\"{key}\" -> \"{value}\"")?)
+    })
 }
 
 pub fn show_branch(rt: &HostRuntime, name: &str, branch: &BranchPage) -> anyhow::Result<()> {
-    let page = branch.bytes();
-    show_head(rt, name, page)?;
-    for (i, offset) in page[16..].chunks_exact(2).take(branch.len()).enumerate() {
-        let at = word16(offset);
-        let Some(separator) = branch.separator(i) else {
-            return Err(anyhow!("a separator is missing"));
-        };
-        let Some(child) = branch.child(i.saturating_add(1)) else {
-            return Err(anyhow!("a child is missing"));
-        };
-        let separator = text(separator);
-        println!(rt; "  cell at {at}: keys from \"{separator}\" on -> child {child}")?;
-    }
-    Ok(())
+    show_cells(rt, name, branch.bytes(), branch.len(), |i| {
+        let separator = text(branch.separator(i).context("a separator is missing")?);
+        let child = branch
+            .child(i.saturating_add(1))
+            .context("a child is missing")?;
+        Ok(format!(in rt.alloc(); "keys from \"{separator}\" on -> child {child}")?)
+    })
 }
 
-pub fn show_meta(rt: &HostRuntime, name: &str, page: &Page) -> anyhow::Result<()> {
-    let pages = word32(&page[4..8]);
-    let root = word32(&page[8..12]);
-    let commit = word64(&page[16..24]);
-    let pairs = word32(&page[24..28]);
-    let levels = page[28];
+// The meta page `at` of a device of so many pages.
+pub fn show_meta(
+    rt: &HostRuntime,
+    name: &str,
+    page: &Page,
+    at: u32,
+    pages: u32,
+) -> anyhow::Result<()> {
+    let meta = Meta::read(page, at, pages).context("no meta page")?;
     show_kind(rt, name, page)?;
-    println!(rt; "  bytes 4-7    pages           {pages}")?;
-    println!(rt; "  bytes 8-11   root            {root}")?;
+    println!(rt; "  bytes 4-7    pages           {}", meta.pages)?;
+    println!(rt; "  bytes 8-11   root            {}", meta.root)?;
     show_checksum(rt, page)?;
-    println!(rt; "  bytes 16-23  commit          {commit}")?;
-    println!(rt; "  bytes 24-27  pairs           {pairs}")?;
-    println!(rt; "  byte  28     levels          {levels}")?;
+    println!(rt; "  bytes 16-23  commit          {}", meta.commit)?;
+    println!(rt; "  bytes 24-27  pairs           {}", meta.pairs)?;
+    println!(rt; "  byte  28     levels          {}", meta.levels)?;
     Ok(())
 }

@@ -2,6 +2,7 @@
 ghost use Rattle.std.specs.Prelude.{◌≡◌};
 
 use device::{Device, DeviceFault, Page, Reader};
+use std::fmt;
 
 pub const HEADER: u32 = 0;
 
@@ -23,14 +24,14 @@ pub enum Held {
     Torn,
 }
 
-impl Held {
-    pub fn as_str(self) -> &'static str {
-        match self {
+impl fmt::Display for Held {
+    fn fmt<W: fmt::Write>(&self, f: &mut fmt::Formatter<W>) -> fmt::Result {
+        f.write_str(match self {
             Held::Nothing => "no fare",
             Held::Unnamed => "no fare (data pages that no header names)",
             Held::Whole => "the fare, whole",
             Held::Torn => "a torn fare",
-        }
+        })
     }
 }
 
@@ -49,9 +50,7 @@ fn data_page(n: u32) -> Page {
         _ => b"fare 18.40, paid in cash",
     };
     let mut page = [0; 512];
-    for (slot, byte) in page.iter_mut().zip(text.iter()) {
-        *slot = *byte;
-    }
+    page[..text.len()].copy_from_slice(text);
     page
 }
 
@@ -66,7 +65,7 @@ pub fn store<D: Device>(device: &mut D) -> Result<(), DeviceFault> {
     device.sync()
 }
 
-// How many of the record's data pages a device holds.
+// How many of the record's data pages a device holds. A `for` and no `filter` with `count`, as each read may fail.
 pub fn data_pages_held<R: Reader>(reader: &mut R) -> Result<u32, DeviceFault> {
     let mut held = 0;
     let mut buffer = [0; 512];

@@ -2,44 +2,36 @@
 // device holds when power is back.
 #![tactic(auto)]
 
-use device::{Device, DeviceFault, Reader};
+use device::DeviceFault;
 use disks::WriteBehind;
 
 mod fare;
 
-// The calls that storing the record makes, by their number.
-fn call_name(call: u64) -> &'static str {
-    match call {
-        0 => "(power stays)",
-        1..=3 => "write of a data page",
-        4 => "sync of the data pages",
-        5 => "write of the header",
-        6 => "sync of the header",
-        _ => "(a call past the last)",
-    }
-}
+// The calls on which power fails, by their number: the calls that storing the record makes, and one past them.
+const CALLS: [&str; 8] = [
+    "(power stays)",
+    "write of a data page",
+    "write of a data page",
+    "write of a data page",
+    "sync of the data pages",
+    "write of the header",
+    "sync of the header",
+    "(a call past the last)",
+];
 
-fn answer_name(answer: Result<(), DeviceFault>) -> &'static str {
-    match answer {
-        Ok(()) => "stored",
-        Err(fault) => fault.as_str(),
-    }
-}
-
-fn show_cut(rt: &HostRuntime, limit: u64) -> anyhow::Result<()> {
+fn show_cut(rt: &HostRuntime, limit: u64, name: &str) -> anyhow::Result<()> {
     let mut device = WriteBehind::new(rt.alloc(), fare::FIRST_DATA + fare::DATA_PAGES, limit)?;
-    let answer = answer_name(fare::store(&mut device));
+    let answer = fare::store(&mut device).map_or_else(DeviceFault::as_str, |()| "stored");
     let mut device = device.with_limit(0);
-    let held = fare::find(&mut device)?.as_str();
-    let name = call_name(limit);
+    let held = fare::find(&mut device)?;
     println!(rt; "{limit:>2}  {name:<22}  {answer:<10}  {held}")?;
     Ok(())
 }
 
 fn run(rt: &HostRuntime) -> anyhow::Result<()> {
     println!(rt; " k  power fails on          answer      the device then holds")?;
-    for limit in 0..8u64 {
-        show_cut(rt, limit)?;
+    for (limit, name) in (0..).zip(CALLS) {
+        show_cut(rt, limit, name)?;
     }
     Ok(())
 }
