@@ -82,8 +82,7 @@ impl Cell for LeafCell {
 
     fn is_good(body: &[u8]) -> bool {
         body.len() >= Self::HEAD
-            && body[0] >= 1
-            && body[0] <= 64
+            && (1..=64).contains(&body[0])
             && body[1] <= 128
             && body.len() == Self::HEAD + body[0] as usize + body[1] as usize
     }
@@ -121,8 +120,7 @@ impl Cell for BranchCell {
 
     fn is_good(body: &[u8]) -> bool {
         body.len() >= Self::HEAD
-            && body[0] >= 1
-            && body[0] <= 64
+            && (1..=64).contains(&body[0])
             && body[1] == 0
             && body.len() == Self::HEAD + body[0] as usize
     }

@@ -37,10 +37,7 @@ impl<C: Cell> CellPage<C> {
     {
         let mut buffer = [0; PAGE_SIZE];
         reader.read(page, &mut buffer)?;
-        match CellPage::read(&buffer) {
-            Ok(read) => Ok(read),
-            Err(cause) => Err(PageFault::Damaged(Damage { page, cause })),
-        }
+        Ok(CellPage::read(&buffer).map_err(|cause| Damage { page, cause })?)
     }
 
     pub fn bytes(&self) -> &Page
