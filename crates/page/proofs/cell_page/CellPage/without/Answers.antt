@@ -28,6 +28,3 @@ whole-requires g c =
       room = omega (arith, ap cost c.splice.ensures, cost_kept (cells_of b) [] c.args.i (c.args.i + 1) (omega arith), cost_none, p.0.room);
       leftmost = ap k.leftmost (c.leftmost-leftmost.ensures ∙ ap left_of c.cells.ensures.same) ∙ left_allowed k b c.args.self.now.sound;
     }
-
-pub returns : goal.returns
-returns g c = record { left = c.whole.ensures.left ∙ (c.leftmost-leftmost.ensures ∙ ap left_of c.cells.ensures.same); cells = c.whole.ensures.cells ∙ c.splice.ensures }

@@ -21,10 +21,6 @@ returns-then-left-right g c =
     let t = total_step xs i (omega arith) in
     omega (arith, c.loop-i.invariant.0, fair_stop xs i c.loop-i.left (omega arith) (omega (arith, t, ap length c.get.ensures, c.loop-i.invariant.1)))
 
-pub overflow_add-left : goal.overflow_add-left
-overflow_add-left g c =
-    omega (arith, total_step (cells_in c.args.self.now) c.loop-i.i (omega arith), ap length c.get.ensures, c.loop-i.invariant.1, c.loop-i.invariant.2, cost_total (cells_in c.args.self.now), c.cost-right.ensures.value, c.cost-right.ensures.bound)
-
 pub loop-i-preserved : goal.loop-i-preserved
 loop-i-preserved g c =
     let xs = cells_in c.args.self.now in

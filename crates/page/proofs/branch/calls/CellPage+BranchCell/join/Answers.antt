@@ -1,10 +1,10 @@
-use Rattle.std.proofs.Common.{◌∙◌, map, sym, ap, arith}
+use Rattle.std.proofs.Common.{map, sym, ap, arith}
 use Rattle.std.proofs.lemmas.List.{take_all}
 use Rattle.cuts.specs.Cuts.{total}
 use Rattle.cuts.specs.Nodes.{cell_cost}
 use Rattle.page.specs.Kinds.{cell_of}
-use Rattle.page.specs.Layout.{cells_of, left_of}
-use Rattle.page.proofs.BranchSteps.{cells_cost, light_few, joins}
+use Rattle.page.specs.Layout.{cells_of}
+use Rattle.page.proofs.BranchSteps.{cells_cost, light_few}
 use Rattle.page.proofs.Children.{branch_bytes_lem}
 use Rattle.page.proofs.branch.calls.CellPage+BranchCell.join.Goals as goal
 
@@ -21,7 +21,3 @@ placed-requires c =
     let t = ap (total cell_cost) (take_all n ps (omega arith)) in
     let f = light_few (total cell_cost ps) (total cell_cost (map cell_of (cells_of b))) (omega (arith, cells_cost a p, p.laid.room)) (omega (arith, cells_cost b q, q.laid.room)) (sym c.if-not-one_is_light.ensures) in
     record { keep = omega arith; skip = omega arith; few = omega (arith, t, f) }
-
-pub returns : goal.returns
-returns c =
-    joins c.args.self.now c.args.right.now c.args.separator.now c.len.result c.leftmost.result c.placed.result (sym c.if-not-one_is_light.ensures) c.len.ensures (c.leftmost.ensures ∙ ap left_of c.cells-cells.ensures.same) c.placed.ensures

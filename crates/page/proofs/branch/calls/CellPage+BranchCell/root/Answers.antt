@@ -1,10 +1,9 @@
-use Rattle.std.proofs.Common.{◌≡◌, ◌^◌, ◌<◌, true, [], ◌∷◌, ◌++◌, refl, ap, ◌∙◌, arith}
-use Rattle.std.proofs.lemmas.Bool.{and_from}
+use Rattle.std.proofs.Common.{◌≡◌, ◌^◌, ◌<◌, true, [], ◌∷◌, ◌++◌, ap, ◌∙◌, arith}
 use Rattle.cuts.specs.Keys.{KeyFits}
 use Rattle.tree.specs.Trees.{branch, cell}
 use Rattle.page.specs.Kinds.{branch_body, branch_good, branch_key, cell_of}
 use Rattle.page.specs.Layout.{cells_of}
-use Rattle.page.specs.Reading.{every, rising}
+use Rattle.page.specs.Reading.{rising}
 use Rattle.page.proofs.BranchLists.{body_good, cell_body}
 use Rattle.page.proofs.BranchSteps.{node_is}
 use Rattle.page.proofs.Branches.{body_small}
@@ -28,11 +27,6 @@ pub push-requires : goal.push-requires
 push-requires c =
     let t = (goal.at.push-requires c).After-as_slice in
     omega (arith, cost_started c.new-draft.ensures.cells, body_small c.as_slice.result.now (good t))
-
-pub finish-requires-clause-goods : goal.finish-requires-clause-goods
-finish-requires-clause-goods c =
-    let t = (goal.at.finish-requires-clause-goods c) in
-    ap (every branch_good) (one t.After-push) ∙ and_from _ _ (good t.After-as_slice) refl
 
 pub finish-requires-clause-rises : goal.finish-requires-clause-rises
 unfolding rising

@@ -5,15 +5,11 @@ use Rattle.cuts.specs.Keys.{key<}
 use Rattle.page.specs.Kinds.{branch_key, cell_of}
 use Rattle.page.specs.Layout.{cells_of}
 use Rattle.page.proofs.BranchOrders.{ends_none, ends_at}
-use Rattle.page.proofs.Splices.{length_same}
 use Rattle.page.proofs.branch.edits.CellPage+BranchCell.ends_below.Goals as goal
 
 pub returns-then-n-eq0 : goal.returns-then-n-eq0
 returns-then-n-eq0 c =
     eq-eqb _ _ c.if-n-eq0.true ∙ sym (ends_none (cells_of c.args.self.now.bytes) c.args.separator.now c.args.n c.if-n-eq0.true)
-
-pub key-requires : goal.key-requires
-key-requires c = omega (arith, length-map (cells_of c.args.self.now.bytes) cell_of, length_same c.cells.ensures.same, c.requires)
 
 pub returns-else-n-eq0 : goal.returns-else-n-eq0
 returns-else-n-eq0 c =

@@ -1,7 +1,6 @@
-use Rattle.std.proofs.Common.{refl, ap, ◌∙◌, arith}
+use Rattle.std.proofs.Common.{refl, ap, arith}
 use Rattle.page.specs.Kinds.{branch_rules}
 use Rattle.page.specs.Layout.{cost}
-use Rattle.page.proofs.BranchSteps.{node_is}
 use Rattle.page.proofs.Children.{page_parts}
 use Rattle.page.proofs.branch.edits.CellPage+BranchCell.with_first.Goals as goal
 
@@ -12,6 +11,3 @@ pub whole-requires : goal.whole-requires
 whole-requires c =
     let p = page_parts branch_rules c.args.self.now.bytes c.args.self.now.sound in
     record { room = omega (arith, ap cost c.splice.ensures, p.0.room); leftmost = refl }
-
-pub returns : goal.returns
-returns c = node_is c.whole.result c.args.leftmost _ c.whole.ensures.left (c.whole.ensures.cells ∙ c.splice.ensures)

@@ -28,9 +28,6 @@ fits c =
     let z = ap length c.key.ensures in
     (omega (arith, f.0, z), omega (arith, f.1, z))
 
-pub branch_cell-cell-requires : goal.branch_cell-cell-requires
-branch_cell-cell-requires c = (fits (goal.at.branch_cell-cell-requires c).After-key).1
-
 pub set_cell-requires : goal.set_cell-requires
 set_cell-requires c =
     let t = (goal.at.set_cell-requires c).After-key in

@@ -1,17 +1,11 @@
 use Rattle.std.proofs.Common.{◌-◌, [], get_or, ap, ◌∙◌, arith}
 use Rattle.std.proofs.lemmas.List.{length-map}
-use Rattle.page.specs.Kinds.{branch_good, cell_of}
+use Rattle.page.specs.Kinds.{cell_of}
 use Rattle.page.specs.Layout.{cells_of, left_of}
 use Rattle.checksum.specs.Bytes.{word32}
 use Rattle.page.proofs.Children.{child_later}
 use Rattle.page.proofs.Splices.{length_same}
-use Rattle.page.proofs.Tested.{every_at}
 use Rattle.page.proofs.branch.reads.CellPage+BranchCell.child.Goals as goal
-
-pub child_of-requires : goal.child_of-requires
-child_of-requires c =
-    let s = c.cells-cells.result in
-    ap branch_good c.get.ensures ∙ every_at branch_good (cells_of s.page.now) (c.args.i - 1) s.goods (omega arith)
 
 pub returns : goal.returns
 returns c =

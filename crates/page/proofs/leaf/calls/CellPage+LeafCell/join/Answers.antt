@@ -10,9 +10,6 @@ use Rattle.page.proofs.Fits.{pairs_cost}
 use Rattle.page.proofs.LeafJoins.{pairs_rise, cells_rise}
 use Rattle.page.proofs.leaf.calls.CellPage+LeafCell.join.Goals as goal
 
-pub returns-then-not-one_is_light : goal.returns-then-not-one_is_light
-returns-then-not-one_is_light c h = false≢true (c.if-not-one_is_light.ensures ∙ h.0)
-
 pub returns-then-not-precedes : goal.returns-then-not-precedes
 returns-then-not-precedes c h =
     false≢true (c.if-not-precedes.ensures ∙ cells_rise (cells_of c.args.self.now.bytes) (cells_of c.args.right.now.bytes) h.1)

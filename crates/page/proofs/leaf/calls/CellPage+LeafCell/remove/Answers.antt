@@ -1,14 +1,10 @@
-use Rattle.std.proofs.Common.{◌+◌, [], map, refl, ap, ◌∙◌, arith}
-use Rattle.std.proofs.lemmas.List.{length-map}
+use Rattle.std.proofs.Common.{◌+◌, [], map, refl, ap, ◌∙◌}
 use Rattle.page.specs.Layout.{cells_of}
 use Rattle.page.specs.Kinds.{leaf_rules, pair_of}
 use Rattle.page.specs.Views.{pairs_in}
 use Rattle.page.proofs.Children.{page_parts}
 use Rattle.page.proofs.Puts.{rising_pairs, remove_old, cells_as_pairs}
 use Rattle.page.proofs.leaf.calls.CellPage+LeafCell.remove.Goals as goal
-
-pub without-requires : goal.without-requires
-without-requires c = omega (arith, length-map (cells_of c.args.self.now.bytes) pair_of, c.in_ok-i.ensures.0)
 
 pub returns : goal.returns
 returns c =

@@ -2,7 +2,7 @@ use Rattle.std.proofs.Common.{◌≡◌, ◌++◌, sym, ap, ◌∙◌, arith}
 use Rattle.page.specs.Kinds.{leaf_key}
 use Rattle.page.specs.Layout.{cells_of}
 use Rattle.page.specs.Reading.{rising}
-use Rattle.page.proofs.LeafJoins.{first_empty, second_empty, both_rise}
+use Rattle.page.proofs.LeafJoins.{both_rise}
 use Rattle.page.proofs.Orders.{less_at}
 use Rattle.page.proofs.leaf.edits.CellPage+LeafCell.precedes.Goals as goal
 use Rattle.page.proofs.leaf.edits.CellPage+LeafCell.precedes.Goals.{After-cells-right}
@@ -12,16 +12,6 @@ same : (c : After-cells-right) → rising leaf_key (cells_of c.cells-left.result
 same c =
     ap (λ b. rising leaf_key (cells_of b ++ cells_of c.cells-right.result.page.now)) c.cells-left.ensures.same
     ∙ ap (λ b. rising leaf_key (cells_of c.args.self.now.bytes ++ cells_of b)) c.cells-right.ensures.same
-
-pub returns-then-len-eq0 : goal.returns-then-len-eq0
-returns-then-len-eq0 c =
-    sym (first_empty (cells_of c.cells-left.result.page.now) (cells_of c.cells-right.result.page.now) (omega arith) c.cells-right.ensures.rises)
-    ∙ same (goal.at.returns-then-len-eq0 c).After-cells-right
-
-pub returns-then-len-eq0-2 : goal.returns-then-len-eq0-2
-returns-then-len-eq0-2 c =
-    sym (second_empty (cells_of c.cells-left.result.page.now) (cells_of c.cells-right.result.page.now) (omega arith) c.cells-left.ensures.rises)
-    ∙ same (goal.at.returns-then-len-eq0-2 c).After-cells-right
 
 pub returns : goal.returns
 returns c =
