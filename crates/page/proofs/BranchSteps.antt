@@ -1,6 +1,5 @@
 -- Edits of branches as the tree's steps.
 use Rattle.std.proofs.Common.{◌≡◌, ℕ, suc, ◌+◌, ◌-◌, ◌<◌, ◌≤◌, true, ◌||◌, ltb, List, ◌∷◌, ◌++◌, map, length, take, drop, Some, None, Option, sym, ap, ◌∙◌, subst, add-one, arith}
-use Rattle.std.proofs.lemmas.List.{take_all}
 use Rattle.std.proofs.lemmas.Bool.Decides.{nat_tests}
 use Rattle.cuts.specs.Cuts.{total}
 use Rattle.cuts.specs.Nodes.{Cell, Branch, cell_cost}
@@ -8,7 +7,7 @@ use Rattle.tree.specs.Trees.{cell, branch}
 use Rattle.tree.specs.Edits as tree
 use Rattle.tree.specs.Places.{separator_at, splice}
 use Rattle.page.specs.Branches.{BranchBytes}
-use Rattle.page.specs.Growths.{GrowsTo, spliced, spliced_two, light, merged, InsertsChild, ReplacesChildren, JoinsBranches}
+use Rattle.page.specs.Growths.{GrowsTo, spliced, spliced_two, InsertsChild, ReplacesChildren}
 use Rattle.page.specs.Kinds.{branch_good, cell_of}
 use Rattle.page.specs.Layout.{cost, cells_of, left_of}
 use Rattle.page.specs.Views.{branch_node}
@@ -78,14 +77,3 @@ merges p q i x b e h f =
 -- two branches of which one is underfull
 pub light_few : (a b : ℕ) → a ≤ 496 → b ≤ 496 → (ltb a 124 || ltb b 124) ≡ true → a + b ≤ 619
 light_few a b h k l = grind (arith, nat_tests)
-
-pub joins : (p q : BranchPage) (s : List ℕ) (n x : ℕ) (o : Option (Grown BranchPage)) → (light p || light q) ≡ true → n ≡ length (branch_node p).rest → x ≡ (branch_node q).first
-    → GrowsTo s (branch (branch_node p).first (take n (branch_node p).rest ++ cell s x ∷ (branch_node q).rest)) o → JoinsBranches p s q o
-joins p q s n x o u en ex f =
-    let a = ap (λ cs. branch (branch_node p).first (cs ++ cell s x ∷ (branch_node q).rest)) (take_all n (branch_node p).rest (omega arith)) in
-    let b = ap (λ y. branch (branch_node p).first ((branch_node p).rest ++ cell s y ∷ (branch_node q).rest)) ex in
-    by_case o (as_grown s o (a ∙ b) f)
-  where
-    by_case : (o : Option (Grown BranchPage)) → GrowsTo s (merged p s q) o → JoinsBranches p s q o
-    by_case None f = λ z. f z.1
-    by_case (Some g) f = (u, f.0, f.1)

@@ -19,10 +19,6 @@ one_loose o x e = ap loose e
 pub no_loose : (o : Option (Bor (List ℕ))) → o ≡ None → loose o ≡ []
 no_loose o e = ap loose e
 
--- a list over the same bytes
-pub parts_same : {a x b y : List ℕ} (keep : ℕ) (m : List (List ℕ)) (skip : ℕ) → a ≡ x → b ≡ y → parts a keep m b skip ≡ parts x keep m y skip
-parts_same {a} {x} {b} {y} keep m skip e f = ap (λ z. parts z keep m b skip) e ∙ ap (λ z. parts x keep m z skip) f
-
 pub length_same : {a x : List ℕ} → a ≡ x → length (cells_of a) ≡ length (cells_of x)
 length_same {a} {x} e = ap (λ z. length (cells_of z)) e
 
