@@ -1,9 +1,18 @@
 -- The copy of each page, after a slot was set.
-use Rattle.std.proofs.Common.{◌≡◌, ℕ, zero, suc, ◌+◌, ◌<◌, ◌≤◌, Bool, true, false, cond, eqb, List, [], ◌∷◌, length, drop, set, Some, None, Option, sym, refl, ap, ◌∙◌, ⊎_elim, arith}
-use Rattle.std.proofs.lemmas.List.{get_or-set_same, drop_more}
-use Rattle.std.proofs.lemmas.Bool.{cases_Bool, cases_eq, cond-true, cond-false, eq-eqb, ne_eqb, eqb-true}
+use Rattle.std.proofs.Common.{◌≡◌, ℕ, zero, suc, ◌+◌, ◌<◌, ◌≤◌, Bool, true, false, cond, eqb, List, [], ◌∷◌, length, get_or, set, is_some, is_lt, Ordering, MatchOption, Some, None, Option, sym, refl, ap, ◌∙◌, subst, ⊎_elim, arith}
+use Rattle.std.proofs.lemmas.List.{get_or-set_same, get_or-map, length-map, map-set}
+use Rattle.std.proofs.Math.Seq.{map-set_same}
+use Rattle.std.specs.List.{AllWithin, HoldsAt}
+use Rattle.std.specs.Ordering.{ordering_then, nat_cmp, bool_cmp}
+use Rattle.std.proofs.lemmas.Bool.{both_ways, cases_Bool, cases_eq, cond-true, cond-false, eq-eqb, ne_eqb, eqb-true}
 use Rattle.cache.specs.declared.copy.Copied.{Copied}
-use Rattle.cache.specs.Held.{has, copy_of, copies, Distinct, length_of, slot_at, Replaces}
+use Rattle.cache.specs.declared.place.Place.{Place}
+use Rattle.cache.specs.declared.slot.Slot.{Slot}
+use Rattle.cache.specs.declared.slots.Slots.{Slots}
+use Rattle.cache.specs.Held.{has, pages_in, copy_of, copies, Distinct, length_of, slot_at, Full, Replaces}
+
+abbrev pub empty : Slot
+empty = record { copy = None; used = 0 }
 
 one_true : (b : Bool) → b ≡ true → ◌≡◌ {A = ℕ} (cond b 1 0) 1
 one_true b e = cond-true {A = ℕ} b 1 0 e
@@ -85,9 +94,64 @@ sized_set c o f g r l h p = ⊎_elim
     (λ e. ⊎_elim (λ t. rw (r.gone p e t)) (λ t. rw (r.others p e t) (h p)) (cases_Bool (has o p)))
     (cases_eq p c.page)
 
--- one step of a search: a slot that has another page, or none
-pub search_more : (ss : List (Option Copied)) (i p : ℕ) → i < length ss → has (slot_at ss i) p ≡ false
-    → copy_of (drop i ss) p ≡ copy_of (drop (i + 1) ss) p
-search_more ss i p l h =
-    ap (λ (xs : List (Option Copied)). copy_of xs p) (drop_more ss i None l)
-    ∙ cond-false (has (slot_at ss i) p) (slot_at ss i) (copy_of (drop (i + 1) ss) p) h
+-- a page that no slot has
+missing : (ss : List (Option Copied)) (p : ℕ) → ((i : ℕ) → i < length ss → has (slot_at ss i) p ≡ false) → copy_of ss p ≡ None
+missing [] p h = refl
+missing (s ∷ ss) p h =
+    cond-false (has s p) s (copy_of ss p) (h 0 (omega arith)) ∙ missing ss p (λ i l. h (suc i) (omega arith))
+
+slot_at-pages_in : (ss : List Slot) (i : ℕ) → i < length ss → (d : Slot) → slot_at (pages_in ss) i ≡ (get_or ss i d).copy
+slot_at-pages_in ss i l d = get_or-map (λ (s : Slot). s.copy) ss i d None l
+
+-- what a search for the first slot that has page p finds
+pub found : (ss : List Slot) (p : ℕ) (r : Option ℕ) → Distinct (pages_in ss)
+    → MatchOption r (AllWithin (λ (s : Slot). has s.copy p ≡ false) ss 0 (length ss)) (λ i. (i < length ss) × HoldsAt (λ (s : Slot). has s.copy p ≡ true) ss i × AllWithin (λ (s : Slot). has s.copy p ≡ false) ss 0 i)
+    → MatchOption r (copy_of (pages_in ss) p ≡ None) (λ i. (has (slot_at (pages_in ss) i) p ≡ true) × (copy_of (pages_in ss) p ≡ slot_at (pages_in ss) i))
+found ss p None d h = missing (pages_in ss) p (λ i l.
+    let l' : i < length ss = omega (arith, length-map {A = Slot} {B = Option Copied}) in
+    ap (λ (o : Option Copied). has o p) (slot_at-pages_in ss i l' empty) ∙ h i empty (omega arith) l')
+found ss p (Some i) d h =
+    let t : has (slot_at (pages_in ss) i) p ≡ true = ap (λ (o : Option Copied). has o p) (slot_at-pages_in ss i h.0 empty) ∙ h.1 empty in
+    (t, copy_at (pages_in ss) i p (d p) t)
+
+-- Slots are in order by whether they have a page, and then by when they were used: where the least of them has a page,
+-- each of them has one.
+pub full_if_least : (ss : List Slot) (n : ℕ) → n < length ss
+    → ((k : ℕ) → k < length ss → is_lt (ordering_then (bool_cmp (is_some (get_or ss k empty).copy) (is_some (get_or ss n empty).copy)) (nat_cmp (get_or ss k empty).used (get_or ss n empty).used)) ≡ false)
+    → is_some (slot_at (pages_in ss) n) ≡ true → Full (pages_in ss)
+full_if_least ss n w least h k l =
+    let l' : k < length ss = omega (arith, length-map {A = Slot} {B = Option Copied}) in
+    let h' : is_some (get_or ss n empty).copy ≡ true = ap is_some (sym (slot_at-pages_in ss n w empty)) ∙ h in
+    ap is_some (slot_at-pages_in ss k l' empty)
+    ∙ go (is_some (get_or ss k empty).copy) (is_some (get_or ss n empty).copy) (nat_cmp (get_or ss k empty).used (get_or ss n empty).used) (least k l') h'
+  where
+    go : (a b : Bool) (o : Ordering) → is_lt (ordering_then (bool_cmp a b) o) ≡ false → b ≡ true → a ≡ true
+    go true b o e h = refl
+    go false true o e h = absurd (both_ways true e refl)
+    go false false o e h = h
+
+-- a slot that is used keeps its page
+pub touched : (ss : List Slot) (i used : ℕ) → pages_in (set ss i (record { copy = (get_or ss i empty).copy; used = used })) ≡ pages_in ss
+touched ss i used = map-set_same (λ (s : Slot). s.copy) ss i (record { copy = (get_or ss i empty).copy; used = used }) empty refl
+
+pub within_pages : (ss : List Slot) (i : ℕ) → i < length ss → i < length (pages_in ss)
+within_pages ss i l = omega (arith, length-map {A = Slot} {B = Option Copied})
+
+pub length_slots : (s : Slots) → length (pages_in s.all) ≡ 8
+length_slots s = omega (arith, s.eight, length-map {A = Slot} {B = Option Copied})
+
+pub within_slots : (s : Slots) (i : Place) → i.number < length (pages_in s.all)
+within_slots s i = omega (arith, length_slots s, i.within)
+
+-- a slot that takes a copy
+pub pages_put : (ss : List Slot) (i : ℕ) (c : Copied) (used : ℕ)
+    → pages_in (set ss i (record { copy = Some c; used = used })) ≡ set (pages_in ss) i (Some c)
+pages_put ss i c used = map-set (λ (s : Slot). s.copy) ss i (record { copy = Some c; used = used })
+
+pub replaces_put : (ss : List Slot) (i : ℕ) (c : Copied) (used : ℕ) → i < length ss → Distinct (pages_in ss)
+    → copies (pages_in ss) c.page ≤ cond (has (slot_at (pages_in ss) i) c.page) 1 0
+    → Replaces (slot_at (pages_in ss) i) c (copy_of (pages_in ss)) (copy_of (pages_in (set ss i (record { copy = Some c; used = used }))))
+replaces_put ss i c used l d a = subst
+    (λ (ts : List (Option Copied)). Replaces (slot_at (pages_in ss) i) c (copy_of (pages_in ss)) (copy_of ts))
+    (sym (pages_put ss i c used))
+    (replaces_set (pages_in ss) i c (within_pages ss i l) d a)

@@ -4,6 +4,4 @@ pub mod Flushes
 pub mod Places
 pub mod Takes
 pub mod Fetched
-pub mod Refused
-pub mod Stored
 pub mod Synced

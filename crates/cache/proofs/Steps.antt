@@ -1,17 +1,24 @@
 -- Steps of a cache: f gives the copy of each page before the step, and g after it.
-use Rattle.std.proofs.Common.{◌≡◌, ℕ, ◌<◌, Bool, true, false, List, is_some, Some, None, Ok, Err, Option, Result, sym, refl, ap, ◌∙◌, subst, ⊎_elim}
-use Rattle.std.proofs.lemmas.Bool.{cases_eq, eq-eqb, ne_eqb, both_ways, or_parts, or_from}
+use Rattle.std.proofs.Common.{◌≡◌, ℕ, ◌<◌, Bool, true, false, ◌||◌, List, is_some, Some, None, Ok, Err, Option, Result, sym, refl, ap, ◌∙◌, subst, ⊎_elim}
+use Rattle.std.proofs.lemmas.Bool.{cases_eq, both_ways, or_parts, or_from}
 use Rattle.device.specs.Medium.{Medium}
 use Rattle.device.specs.Calls.{Keeps, KeepsBut, Writes}
+use Rattle.device.specs.History.{Event}
+use Rattle.device.specs.declared.Reader.{Ghosts}
 use Rattle.device.specs.declared.fault.DeviceFault.{DeviceFault}
 use Rattle.device.specs.declared.fault.DeviceFault.TheVariants.{Outside, Off}
 use Rattle.cache.specs.declared.copy.Copied.{Copied}
-use Rattle.cache.specs.Held.{is_changed, Replaces}
-use Rattle.cache.specs.Cached.{shown, over, Agrees}
+use Rattle.cache.specs.Held.{is_changed, shown}
+use Rattle.cache.specs.Cached.{over, Agrees}
+use Rattle.cache.specs.declared.cache.Cache.{Cache}
+use Rattle.cache.specs.Calls.{says_off, Calls}
 use Rattle.cache.specs.Inner.{Settles}
 
-pub keeps_same : (m : Medium) → Keeps m m
-keeps_same m = record { same_size = refl; same_bytes = λ p. refl; stays_durable = λ p e. e }
+-- a call of the device below, which changes no slot; the cache remembers it if the device says that it is off
+pub record Passes {B : Type 0} (R : Ghosts B) (c : Cache B) (e : Event) (r : Result Unit DeviceFault) (d : Cache B) : Type 0 where
+  pub happens : Calls R c e d
+  pub same_slots : d.slots ≡ c.slots
+  pub learns : d.off ≡ (says_off r || c.off)
 
 pub keeps_more : (m k n : Medium) → Keeps m k → Keeps k n → Keeps m n
 keeps_more m k n a b = record {
@@ -19,9 +26,6 @@ keeps_more m k n a b = record {
   same_bytes = λ p. b.same_bytes p ∙ a.same_bytes p;
   stays_durable = λ p e. b.stays_durable p (a.stays_durable p e);
 }
-
-pub settles_same : (m : Medium) → Settles m (Ok tt) m
-settles_same m = (refl, λ _. refl, keeps_same m)
 
 still_more : (m k n : Medium) → (m.on ≡ false → k ≡ m) → (k.on ≡ false → n ≡ k) → m.on ≡ false → n ≡ m
 still_more m k n a b e = let d = a e in b (ap (λ (x : Medium). x.on) d ∙ e) ∙ d
@@ -68,49 +72,3 @@ flush_lost f off m n q b s h a w = (
   where
     not_q : (p : ℕ) → is_changed (f p) ≡ false → p ≡ q → ⊥
     not_q p e z = both_ways (is_changed (f q)) (subst (λ (x : ℕ). is_changed (f x) ≡ false) z e) h
-
--- a changed page was written below
-pub flush_done : (f g : ℕ → Option Copied) (off : Bool) (m n : Medium) (c d : Copied)
-    → Replaces (Some c) d f g → d.page ≡ c.page → d.changed ≡ false → d.bytes ≡ c.bytes → c.changed ≡ true
-    → Agrees f off m → Writes m c.page c.bytes (Ok tt) n
-    → Settles (over f m) (Ok tt) (over g n) × Agrees g off n
-flush_done f g off m n c d r x y z t a w = (
-  (
-    w.1.is_on ∙ sym w.1.was_on,
-    λ e. absurd (both_ways m.on e w.1.was_on),
-    record {
-      same_size = w.3.same_size;
-      same_bytes = λ p. ⊎_elim
-          (λ e. rw e (rw (new, was) z))
-          (λ e. rw (others p e) (ap (shown (f p)) (w.3.same_bytes p e)))
-          (cases_eq p c.page);
-      stays_durable = λ p e. let u = or_parts (is_changed (f p)) (m.volatile p) e in
-          let v : p ≡ c.page → ⊥ = λ i. both_ways c.changed (ap is_changed (sym was) ∙ subst (λ (x : ℕ). is_changed (f x) ≡ false) i u.0) t in
-          or_from (is_changed (g p)) (n.volatile p) (ap is_changed (others p v) ∙ u.0) (w.3.stays_durable p v u.1);
-    },
-  ),
-  record {
-    same = λ p i e. ⊎_elim
-        (λ j. rw j (rw new (z ∙ sym w.2)))
-        (λ j. let u = w.3.same_bytes p j in let v = others p j in
-        let i' : is_some (f p) ≡ true = ap is_some (sym v) ∙ i in
-        let e' : is_changed (f p) ≡ false = ap is_changed (sym v) ∙ e in
-        rw (v, u) (a.same p i' e'))
-        (cases_eq p c.page);
-    within = λ p i. subst (λ (x : ℕ). p < x) (sym w.3.same_size) (⊎_elim
-        (λ j. rw j w.0)
-        (λ j. a.within p (ap is_some (sym (others p j)) ∙ i))
-        (cases_eq p c.page));
-    knows_off = λ e. absurd (both_ways m.on (a.knows_off e) w.1.was_on);
-    knows_on = λ _ _. w.1.is_on;
-  },
-)
-  where
-    was : f c.page ≡ Some c
-    was = r.was c.page (eq-eqb c.page c.page refl)
-
-    new : g c.page ≡ Some d
-    new = subst (λ (p : ℕ). g p ≡ Some d) x r.new
-
-    others : (p : ℕ) → (p ≡ c.page → ⊥) → g p ≡ f p
-    others p e = r.others p (λ i. e (i ∙ x)) (ne_eqb c.page p (λ i. e (sym i)))

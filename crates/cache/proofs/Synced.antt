@@ -2,18 +2,19 @@
 use Rattle.std.proofs.Common.{◌≡◌, ℕ, zero, suc, ◌+◌, ◌<◌, ◌≤◌, true, false, List, [], ◌∷◌, length, set, None, Ok, Err, Option, Result, sym, refl, ap, ◌∙◌, subst, inl, inr, ⊎_elim, arith}
 use Rattle.std.proofs.lemmas.List.{get_or-set_same, get_or-set_other, get_or_past}
 use Rattle.std.proofs.lemmas.Bool.{both_ways, cases_Bool, cases_eq, cases_lt, cond-true, cond-false, or_from}
-use Rattle.device.specs.Medium.{Medium}
-use Rattle.device.specs.History.{History, Happens, did_sync}
+use Rattle.device.specs.History.{did_sync}
 use Rattle.device.specs.declared.fault.DeviceFault.{DeviceFault}
 use Rattle.device.specs.declared.fault.DeviceFault.TheVariants.{Outside, Off}
+use Rattle.device.specs.declared.Reader.{Ghosts}
 use Rattle.cache.specs.declared.copy.Copied.{Copied}
 use Rattle.cache.specs.declared.cache.Cache.{Cache}
 use Rattle.cache.specs.declared.slots.Slots.{Slots}
-use Rattle.cache.specs.Held.{has, is_changed, copy_of, slot_at, cleaned}
-use Rattle.cache.specs.Cached.{over, copies_of, cache_medium, cache_past}
+use Rattle.cache.specs.Held.{pages_in, has, is_changed, copy_of, slot_at, cleaned}
+use Rattle.cache.specs.Cached.{pages_of, over, copies_of, cache_medium, HappensTo}
 use Rattle.cache.specs.Calls.{Tidied, Clean, Flushed, Syncing}
-use Rattle.cache.specs.Inner.{flushed, Goes, Passes, FlushesAll, FlushedTo}
-use Rattle.cache.proofs.Steps.{keeps_more}
+use Rattle.cache.specs.Inner.{flushed, Goes, FlushesAll, FlushedTo}
+use Rattle.cache.proofs.Copies.{length_slots, within_slots}
+use Rattle.cache.proofs.Steps.{Passes, keeps_more}
 use Rattle.cache.proofs.Flushes.{cleaned_clean}
 use Rattle.cache.proofs.Places.{changed_cleaned, tidied_same, tidied_set}
 use Rattle.cache.proofs.Takes.{over_keeps, agrees_keeps}
@@ -46,86 +47,82 @@ clean_set ss k l h i j = ⊎_elim
     (λ e. ap is_changed (get_or-set_other ss k i (cleaned (slot_at ss k)) None e) ∙ h i (omega arith))
     (cases_eq i k)
 
-pub flushed_more : {B : Type 0} {past : B → History → Type 0} {medium : B → Medium} {c d e : Cache B} (k : ℕ) → k < 8
-    → FlushedTo past medium c k d → Goes past medium d (Ok tt) e → e.slots.pages ≡ flushed (Ok tt) d.slots.pages k
-    → (is_changed (slot_at d.slots.pages k) ≡ false → e ≡ d) → FlushedTo past medium c (k + 1) e
+pub flushed_more : {B : Type 0} {R : Ghosts B} {c d e : Cache B} (k : ℕ) → k < 8
+    → FlushedTo R c k d → Goes R d (Ok tt) e → pages_of e ≡ flushed (Ok tt) (pages_of d) k
+    → (is_changed (slot_at (pages_of d) k) ≡ false → e ≡ d) → FlushedTo R c (k + 1) e
 flushed_more {B = B} {c = c} {d = d} {e = e} k w f x s q = record {
   goes = goes_more (Ok tt) f.goes x;
-  tidied = tidied_more c.slots.pages d.slots.pages e.slots.pages f.tidied (subst (Tidied d.slots.pages) (sym s) (tidied_set d.slots k w));
-  cleans = λ i j. ap (λ (ss : List (Option Copied)). is_changed (slot_at ss i)) s ∙ clean_set d.slots.pages k (omega (arith, d.slots.eight)) f.cleans i j;
-  quiet = λ z. let y = f.quiet z in q (ap (λ (x : Cache B). is_changed (slot_at x.slots.pages k)) y ∙ z k) ∙ y;
+  tidied = tidied_more (pages_of c) (pages_of d) (pages_of e) f.tidied (subst (Tidied (pages_of d)) (sym s) (tidied_set d.slots (record { number = k; within = w })));
+  cleans = λ i j. ap (λ (ss : List (Option Copied)). is_changed (slot_at ss i)) s ∙ clean_set (pages_of d) k (within_slots d.slots (record { number = k; within = w })) f.cleans i j;
+  quiet = λ z. let y = f.quiet z in q (ap (λ (x : Cache B). is_changed (slot_at (pages_of x) k)) y ∙ z k) ∙ y;
 }
 
-pub flushed_lost : {B : Type 0} {past : B → History → Type 0} {medium : B → Medium} {c d e : Cache B} (k : ℕ) (y : DeviceFault)
-    → FlushedTo past medium c k d → Goes past medium d (Err y) e → e.slots.pages ≡ d.slots.pages
-    → (is_changed (slot_at d.slots.pages k) ≡ false → ◌≡◌ {A = Result (Unit {0}) DeviceFault} (Err y) (Ok tt)) → FlushesAll past medium c (Err y) e
+pub flushed_lost : {B : Type 0} {R : Ghosts B} {c d e : Cache B} (k : ℕ) (y : DeviceFault)
+    → FlushedTo R c k d → Goes R d (Err y) e → pages_of e ≡ (pages_of d)
+    → (is_changed (slot_at (pages_of d) k) ≡ false → ◌≡◌ {A = Result (Unit {0}) DeviceFault} (Err y) (Ok tt)) → FlushesAll R c (Err y) e
 flushed_lost {B = B} {c = c} {d = d} {e = e} k y f x s q = record {
   goes = goes_more (Err y) f.goes x;
-  flushes = tidied_more c.slots.pages d.slots.pages e.slots.pages f.tidied (tidied_same _ _ s);
+  flushes = tidied_more (pages_of c) (pages_of d) (pages_of e) f.tidied (tidied_same _ _ s);
   cleans = λ z. absurd (let n : ◌≡◌ {A = ℕ} 0 1 = cc in omega arith);
-  quiet = λ z. let w = q (ap (λ (x : Cache B). is_changed (slot_at x.slots.pages k)) (f.quiet z) ∙ z k) in absurd (let n : ◌≡◌ {A = ℕ} 0 1 = cc in omega arith);
+  quiet = λ z. let w = q (ap (λ (x : Cache B). is_changed (slot_at (pages_of x) k)) (f.quiet z) ∙ z k) in absurd (let n : ◌≡◌ {A = ℕ} 0 1 = cc in omega arith);
 }
 
-pub flushed_done : {B : Type 0} {past : B → History → Type 0} {medium : B → Medium} {c d : Cache B} (k : ℕ) → 8 ≤ k
-    → FlushedTo past medium c k d → FlushesAll past medium c (Ok tt) d
+pub flushed_done : {B : Type 0} {R : Ghosts B} {c d : Cache B} (k : ℕ) → 8 ≤ k
+    → FlushedTo R c k d → FlushesAll R c (Ok tt) d
 flushed_done {c = c} {d = d} k w f = record {
   goes = f.goes;
-  flushes = flushed_all c.slots.pages d.slots.pages f.tidied all;
+  flushes = flushed_all (pages_of c) (pages_of d) f.tidied all;
   cleans = λ _. all;
   quiet = λ z. (refl, f.quiet z);
 }
   where
-    all : Clean d.slots.pages
+    all : Clean (pages_of d)
     all i = ⊎_elim
         (λ l. f.cleans i (omega arith))
-        (λ l. ap is_changed (get_or_past d.slots.pages i None (omega (arith, d.slots.eight))))
+        (λ l. ap is_changed (get_or_past (pages_of d) i None (omega (arith, length_slots d.slots))))
         (cases_lt i 8)
 
-pub sync_refused : {B : Type 0} {past : B → History → Type 0} {medium : B → Medium} {c d : Cache B} (y : DeviceFault)
-    → Goes past medium c (Err y) d
-    → Happens (cache_past past medium c) (cache_medium medium c) (did_sync (Err y)) (cache_past past medium d) (cache_medium medium d)
+pub sync_refused : {B : Type 0} {R : Ghosts B} {c d : Cache B} (y : DeviceFault)
+    → Goes R c (Err y) d
+    → HappensTo R c (did_sync (Err y)) d
 sync_refused Outside h = record { follows = λ _ a. absurd (h.follows a).0 }
 sync_refused Off h = record { follows = λ _ a. let u = h.follows a in (u.0, u.1) }
 
-pub sync_done : {B : Type 0} {past : B → History → Type 0} {medium : B → Medium} {c d e : Cache B} (r : Result Unit DeviceFault)
-    → Goes past medium c (Ok tt) d → Clean d.slots.pages → Passes past medium d (did_sync r) r e
-    → Happens (cache_past past medium c) (cache_medium medium c) (did_sync r) (cache_past past medium e) (cache_medium medium e)
-sync_done {medium = medium} {c = c} {d = d} {e = e} (Ok _) x h p = record {
+pub sync_done : {B : Type 0} {R : Ghosts B} {c d e : Cache B} (r : Result Unit DeviceFault)
+    → Goes R c (Ok tt) d → Clean (pages_of d) → Passes R d (did_sync r) r e
+    → HappensTo R c (did_sync r) e
+sync_done {R = R} {c = c} {d = d} {e = e} (Ok _) x h p = record {
   follows = λ _ a.
       let u = x.follows a in
       let w = p.happens.follows u.1.led u.1.is_past in
-      let f = copies_of d in let m = medium d.below in let n = medium e.below in
-      let v = ap (λ (s : Slots). copy_of s.pages) p.same_slots in (
+      let f = copies_of d in let m = R.medium d.below in let n = R.medium e.below in
+      let v = ap (λ (s : Slots). copy_of (pages_in s.all)) p.same_slots in (
         rw v (
           record { was_on = sym u.0.0 ∙ w.0.0.was_on; is_on = w.0.0.is_on },
-          λ q. or_from (is_changed (f q)) (n.volatile q) (clean_copy d.slots.pages h q) (w.0.1 q),
-          keeps_more (cache_medium medium c) (over f m) (over f n) u.0.2 (over_keeps f m n w.0.2),
+          λ q. or_from (is_changed (f q)) (n.volatile q) (clean_copy (pages_of d) h q) (w.0.1 q),
+          keeps_more (cache_medium R c) (over f m) (over f n) u.0.2 (over_keeps f m n w.0.2),
         ),
         record { led = _; is_past = w.1; agrees = rw (v, p.learns) (agrees_keeps f d.off d.off m n w.0.2 (λ z. absurd (both_ways m.on (u.1.agrees.knows_off z) w.0.0.was_on)) (λ _ _. w.0.0.is_on) u.1.agrees) },
       );
 }
 sync_done (Err Outside) x h p = record { follows = λ _ a. let u = x.follows a in absurd (p.happens.follows u.1.led u.1.is_past).0 }
-sync_done {past = past} {medium = medium} {c = c} {d = d} {e = e} (Err Off) x h p = sync_refused {c = c} Off (goes_more {d = d} (Err Off) x (record {
+sync_done {R = R} {c = c} {d = d} {e = e} (Err Off) x h p = sync_refused {c = c} Off (goes_more {d = d} (Err Off) x (record {
   follows = λ a.
       let w = p.happens.follows a.led a.is_past in
-      let f = copies_of d in let m = medium d.below in let n = medium e.below in
-      let v = ap (λ (s : Slots). copy_of s.pages) p.same_slots in (
+      let f = copies_of d in let m = R.medium d.below in let n = R.medium e.below in
+      let v = ap (λ (s : Slots). copy_of (pages_in s.all)) p.same_slots in (
         rw v (record { is_off = w.0.0.is_off; still = λ z. ap (over f) (w.0.0.still z) }, over_keeps f m n w.0.1),
         record { led = _; is_past = w.1; agrees = rw (v, p.learns) (agrees_keeps f d.off true m n w.0.1 (λ _. w.0.0.is_off) (λ z. absurd (both_ways true z refl)) a.agrees) },
       );
 }))
 
-pub syncs_lost : {B : Type 0} {past : B → History → Type 0} {medium : B → Medium} {c d : Cache B} (y : DeviceFault)
-    → FlushesAll past medium c (Err y) d → Syncing past medium false c (Err y) d
-syncs_lost y f = (f.flushes, λ z. absurd (let w = (f.quiet z).0 in let n : ◌≡◌ {A = ℕ} 0 1 = cc in omega arith))
-
-pub syncs_done : {B : Type 0} {past : B → History → Type 0} {medium : B → Medium} {c d e : Cache B} (r : Result Unit DeviceFault)
-    → FlushesAll past medium c (Ok tt) d → Passes past medium d (did_sync r) r e → Syncing past medium false c r e
+pub syncs_done : {B : Type 0} {R : Ghosts B} {c d e : Cache B} (r : Result Unit DeviceFault)
+    → FlushesAll R c (Ok tt) d → Passes R d (did_sync r) r e → Syncing R false c r e
 syncs_done {c = c} {d = d} {e = e} r f p = (go r, λ z. calls_same (f.quiet z).1 p)
   where
-    same : e.slots.pages ≡ d.slots.pages
-    same = ap (λ (s : Slots). s.pages) p.same_slots
+    same : pages_of e ≡ pages_of d
+    same = ap (λ (s : Slots). (pages_in s.all)) p.same_slots
 
-    go : (r : Result Unit DeviceFault) → Flushed c.slots.pages r e.slots.pages
+    go : (r : Result Unit DeviceFault) → Flushed (pages_of c) r (pages_of e)
     go (Ok _) = λ q. ap (λ (ss : List (Option Copied)). copy_of ss q) same ∙ f.flushes q
     go (Err _) = λ q. inr (ap (λ (ss : List (Option Copied)). copy_of ss q) same ∙ f.flushes q)

@@ -2,10 +2,10 @@
 use Rattle.std.proofs.Common.{◌≡◌, ℕ, ◌<◌, Bool, true, false, ◌||◌, is_some, Some, None, Option, sym, refl, ap, ◌∙◌, subst, ⊎_elim}
 use Rattle.std.proofs.lemmas.Bool.{cases_eq, cases_Bool, both_ways, or_parts, or_from}
 use Rattle.device.specs.Medium.{Medium}
-use Rattle.device.specs.Calls.{Keeps, KeepsBut}
+use Rattle.device.specs.Calls.{Keeps}
 use Rattle.cache.specs.declared.copy.Copied.{Copied}
-use Rattle.cache.specs.Held.{has, is_changed, Replaces}
-use Rattle.cache.specs.Cached.{shown, over, Agrees}
+use Rattle.cache.specs.Held.{has, is_changed, Replaces, shown}
+use Rattle.cache.specs.Cached.{over, Agrees}
 
 pub over_keeps : (f : ℕ → Option Copied) (m n : Medium) → Keeps m n → Keeps (over f m) (over f n)
 over_keeps f m n k = record {
@@ -77,18 +77,4 @@ take_read f g off m o d a r c e x y l = (
         (cases_eq p d.page);
   },
   agrees_new f g off m o d a r l (λ _. y),
-)
-
--- a page takes its place that was written
-pub take_written : (f g : ℕ → Option Copied) (off : Bool) (m : Medium) (o : Option Copied) (d : Copied) → Agrees f off m → Replaces o d f g
-    → ((p : ℕ) → (p ≡ d.page → ⊥) → has o p ≡ true → is_changed o ≡ false) → d.changed ≡ true → d.page < m.size
-    → KeepsBut d.page (over f m) (over g m) × Agrees g off m
-take_written f g off m o d a r c x l = (
-  record {
-    same_size = refl;
-    same_bytes = λ p j. (left_same f g off m o d a r p j (c p j)).0;
-    stays_durable = λ p j h. let z = or_parts (is_changed (f p)) (m.volatile p) h in
-        or_from (is_changed (g p)) (m.volatile p) ((left_same f g off m o d a r p j (c p j)).1 ∙ z.0) z.1;
-  },
-  agrees_new f g off m o d a r l (λ e. absurd (both_ways d.changed e x)),
 )

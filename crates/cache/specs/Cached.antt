@@ -1,16 +1,12 @@
 -- The medium that a cache is. In these, f gives the copy that the cache has of each page, m is the medium of the
 -- device below, and `off` is what the cache knows of the device's power.
-use Rattle.std.specs.Prelude.{◌≡◌, ℕ, ◌<◌, Bool, true, false, ◌||◌, List, is_some, Some, None, Option}
+use Rattle.std.specs.Prelude.{◌≡◌, ℕ, ◌<◌, Bool, true, false, ◌||◌, List, is_some, Option}
 use Rattle.device.specs.Medium.{Medium}
-use Rattle.device.specs.History.{History}
+use Rattle.device.specs.History.{History, Event, Happens}
+use Rattle.device.specs.declared.Reader.{Ghosts}
 use Rattle.cache.specs.declared.copy.Copied.{Copied}
 use Rattle.cache.specs.declared.cache.Cache.{Cache}
-use Rattle.cache.specs.Held.{is_changed, copy_of}
-
--- the bytes of the copy, or where there is none, those below
-abbrev pub shown : Option Copied → List ℕ → List ℕ
-shown None b = b
-shown (Some c) b = c.bytes
+use Rattle.cache.specs.Held.{is_changed, pages_in, copy_of, shown}
 
 -- a page has the bytes of its copy, and is volatile if the copy was changed, or if it is volatile below
 abbrev pub over : (ℕ → Option Copied) → Medium → Medium
@@ -26,19 +22,26 @@ pub record Agrees (f : ℕ → Option Copied) (off : Bool) (m : Medium) : Type 0
   pub knows_off : off ≡ true → m.on ≡ false
   pub knows_on : off ≡ false → 0 < m.size → m.on ≡ true
 
--- A cache over a device of type B, whose medium and whose past are given.
-abbrev pub copies_of : {B : Type 0} → Cache B → ℕ → Option Copied
-copies_of c = copy_of c.slots.pages
+-- A cache over a device of type B, whose medium and past are those of R.
+abbrev pub pages_of : {B : Type 0} → Cache B → List (Option Copied)
+pages_of c = pages_in c.slots.all
 
-abbrev pub cache_medium : {B : Type 0} → (B → Medium) → Cache B → Medium
-cache_medium medium c = over (copies_of c) (medium c.below)
+abbrev pub copies_of : {B : Type 0} → Cache B → ℕ → Option Copied
+copies_of c = copy_of (pages_of c)
+
+abbrev pub cache_medium : {B : Type 0} → Ghosts B → Cache B → Medium
+cache_medium R c = over (copies_of c) (R.medium c.below)
 
 -- some history led to the device below, and the cache agrees with it
-pub record Stands {B : Type 0} (past : B → History → Type 0) (medium : B → Medium) (c : Cache B) : Type 0 where
+pub record Stands {B : Type 0} (R : Ghosts B) (c : Cache B) : Type 0 where
   pub led : History
-  pub is_past : past c.below led
-  pub agrees : Agrees (copies_of c) c.off (medium c.below)
+  pub is_past : R.past c.below led
+  pub agrees : Agrees (copies_of c) c.off (R.medium c.below)
 
 -- Any history may have led to a cache that stands.
-abbrev pub cache_past : {B : Type 0} → (B → History → Type 0) → (B → Medium) → Cache B → History → Type 0
-cache_past past medium c h = Stands past medium c
+abbrev pub cache_past : {B : Type 0} → Ghosts B → Cache B → History → Type 0
+cache_past R c h = Stands R c
+
+-- the event e on a cache that is c before it, and d after it
+abbrev pub HappensTo : {B : Type 0} → Ghosts B → Cache B → Event → Cache B → Type 0
+HappensTo R c e d = Happens (cache_past R c) (cache_medium R c) e (cache_past R d) (cache_medium R d)

@@ -1,6 +1,11 @@
--- The pages that a cache holds: a list of slots, each with the copy of a page or with none.
-use Rattle.std.specs.Prelude.{◌≡◌, ℕ, ◌+◌, ◌<◌, ◌≤◌, Bool, true, false, cond, List, [], ◌∷◌, length, is_some, Some, None, Option, ◌==◌, ◌≢◌, slice_index_or}
+-- The pages that a cache holds: a list with the copy of a page for each slot, or with none.
+use Rattle.std.specs.Prelude.{◌≡◌, ℕ, ◌+◌, ◌<◌, ◌≤◌, Bool, true, false, cond, List, [], ◌∷◌, map, length, is_some, Some, None, Option, ◌==◌, ◌≢◌, slice_index_or}
 use Rattle.cache.specs.declared.copy.Copied.{Copied}
+use Rattle.cache.specs.declared.slot.Slot.{Slot}
+use Rattle.cache.specs.declared.place.Place.{Place}
+
+abbrev pub pages_in : List Slot → List (Option Copied)
+pages_in = map (λ s. s.copy)
 
 -- the slot has page p
 abbrev pub has : Option Copied → ℕ → Bool
@@ -37,6 +42,11 @@ length_of (Some c) = length c.bytes
 abbrev pub Sized : List (Option Copied) → Type 0
 Sized ss = (p : ℕ) → length_of (copy_of ss p) ≡ 512
 
+-- the bytes of the copy, or where there is none, b
+abbrev pub shown : Option Copied → List ℕ → List ℕ
+shown None b = b
+shown (Some c) b = c.bytes
+
 abbrev pub slot_at : List (Option Copied) → ℕ → Option Copied
 slot_at ss i = slice_index_or ss i None
 
@@ -45,9 +55,9 @@ abbrev pub Full : List (Option Copied) → Type 0
 Full ss = (i : ℕ) → i < length ss → is_some (slot_at ss i) ≡ true
 
 -- a search for page p finds the slot that has it, if there is one
-abbrev pub Finds : List (Option Copied) → ℕ → Option ℕ → Type 0
+abbrev pub Finds : List (Option Copied) → ℕ → Option Place → Type 0
 Finds ss p None = copy_of ss p ≡ None
-Finds ss p (Some i) = (i < length ss) × (has (slot_at ss i) p ≡ true) × (copy_of ss p ≡ slot_at ss i)
+Finds ss p (Some i) = (has (slot_at ss i.number) p ≡ true) × (copy_of ss p ≡ slot_at ss i.number)
 
 -- A slot that held o now holds c, and nothing else has changed. f gives the copy of each page before, and g
 -- after it.

@@ -2,6 +2,8 @@
 
 mod cache;
 mod copy;
+mod place;
+mod slot;
 mod slots;
 
 pub use cache::Cache;

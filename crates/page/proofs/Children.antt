@@ -51,6 +51,10 @@ laid_of k b h =
     let e = (bytes_eq-Decides _ _).0 r.1 in
     (record { room = leb-true _ _ r.0; child = left_small _ _ _ _ b e; word = sum_small _ _ _ _ b e; is = e }, p.0)
 
+layout_left : (k : Rules) (b : List ℕ) → layout k b ≡ true → k.leftmost (left_of b) ≡ true
+unfolding layout
+layout_left k b h = (and_parts _ _ (and_parts _ _ h).1).0
+
 module _ (k : Rules) (b : List ℕ) where
   -- what a page has whose only fault may be its checksum
   pub shape_parts : shape_fault k b ≡ None → Laid k.kind b × (every k.good (cells_of b) ≡ true) × (rising k.key (cells_of b) ≡ true)
@@ -64,6 +68,11 @@ module _ (k : Rules) (b : List ℕ) where
   pub page_parts : sound k b ≡ true → Laid k.kind b × (every k.good (cells_of b) ≡ true) × (rising k.key (cells_of b) ≡ true)
   unfolding sound first_fault
   page_parts h = shape_parts (no_fault (is_sealed b) (shape_fault k b) h)
+
+  pub left_allowed : sound k b ≡ true → k.leftmost (left_of b) ≡ true
+  unfolding sound first_fault shape_fault
+  left_allowed h =
+      layout_left k b (parts_pass (eqb (get_or b 0 0) k.kind) (layout k b) (rising k.key (cells_of b)) (no_fault (is_sealed b) _ h)).0
 
 pub branch_bytes_lem : (b : List ℕ) → sound branch_rules b ≡ true → BranchBytes b
 branch_bytes_lem b h =

@@ -6,6 +6,7 @@ use device::Page;
 use std::alloc::AllocError;
 use std::marker::PhantomData;
 
+mod edits;
 mod reads;
 
 // A page of cells of one kind: its bytes are a page that reading accepts, with its checksum.

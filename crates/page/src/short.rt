@@ -2,7 +2,8 @@ ghost use Rattle.std.specs.Prelude.{◌≤◌};
 
 mod makes;
 
-// Bytes held by value, as many as the largest cell has: a cell that is in no page yet, or a separator.
+// Bytes held by value, as many as the largest cell has: a cell that is in no page yet, or a separator. An array with a
+// length, since the store needs no heap.
 #[derive(Clone, Copy)]
 pub struct Short {
     bytes: [u8; 194],

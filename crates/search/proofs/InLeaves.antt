@@ -1,36 +1,17 @@
 -- Searches in one leaf.
-use Rattle.std.proofs.Common.{◌≡◌, ℕ, zero, suc, ◌<◌, ◌≤◌, Bool, true, false, cond, not, eqb, List, [], ◌∷◌, length, get_or, is_some, Some, None, sym, refl, ap, ◌∙◌, subst, arith}
+use Rattle.std.proofs.Common.{◌≡◌, ℕ, zero, suc, ◌<◌, ◌≤◌, Bool, true, false, cond, List, [], ◌∷◌, length, Some, None, sym, refl, ap, ◌∙◌, subst, arith}
 use Rattle.std.specs.Option.{option_map}
 use Rattle.std.proofs.ByRecursion.{All-get_or}
-use Rattle.std.proofs.lemmas.Bool.{false≢true}
-use Rattle.checksum.specs.Sealed.{is_sealed}
 use Rattle.cuts.specs.Keys.{key<, Below}
 use Rattle.cuts.specs.Nodes.{Pair}
 use Rattle.cuts.proofs.Order.{less_self, most_from_less, ways, less, more, same}
 use Rattle.tree.specs.Maps.{pair, Rising, lookup, first_above}
-use Rattle.page.specs.Kinds.{leaf_rules, leaf_key}
-use Rattle.page.specs.Layout.{cells_of}
 use Rattle.page.specs.Places.{up_to}
-use Rattle.page.specs.Reading.{layout, rising, shape_fault, first_fault, sound}
-use Rattle.page.specs.Views.{pairs_in, leaf_pairs, key_of, key_at, value_at, FindsKey}
-use Rattle.page.specs.declared.fault.Cause.TheVariants.{Checksum, Kind, Layout, Order}
+use Rattle.page.specs.Views.{leaf_pairs, key_of, key_at, value_at, FindsKey}
 use Rattle.page.specs.CellPages.{LeafPage}
-use Rattle.page.proofs.Puts.{rising_pairs}
+use Rattle.paged.proofs.Accepted.{leaf_page_has}
 use Rattle.search.specs.Finding.{pair_with, pair_at}
 use Rattle.search.specs.Following.{InLeaf}
-
--- the keys of a leaf rise
-last_passes : (s e l r : Bool) → not (is_some (cond (not s) (Some Checksum) (cond (not e) (Some Kind) (cond (not l) (Some Layout) (cond (not r) (Some Order) None))))) ≡ true
-    → r ≡ true
-last_passes false e l r h = absurd (false≢true h)
-last_passes true false l r h = absurd (false≢true h)
-last_passes true true false r h = absurd (false≢true h)
-last_passes true true true false h = absurd (false≢true h)
-last_passes true true true true h = refl
-
-leaf_rises : (b : List ℕ) → sound leaf_rules b ≡ true → Rising (pairs_in b)
-unfolding sound first_fault shape_fault
-leaf_rises b h = rising_pairs (cells_of b) (last_passes (is_sealed b) (eqb (get_or b 0 0) 1) (layout leaf_rules b) (rising leaf_key (cells_of b)) h)
 
 -- the pair with a key
 lookup_here : (k : List ℕ) (ps : List Pair) (i : ℕ) → Rising ps → i < length ps → key_at ps i ≡ k → lookup k ps ≡ Some (value_at ps i)
@@ -84,7 +65,7 @@ module _ (leaf : LeafPage) (k : List ℕ) where
 
   pub in_leaf_found : (i : ℕ) → FindsKey ps k (Some i) → InLeaf leaf (pair_with k ps) (Some (record { leaf = leaf; cell = i }))
   in_leaf_found i f =
-      let e = lookup_here k ps i (leaf_rises leaf.bytes leaf.sound) f.0 f.1 in
+      let e = lookup_here k ps i (leaf_page_has leaf).rises f.0 f.1 in
       subst (λ o. InLeaf leaf o (Some (record { leaf = leaf; cell = i }))) (sym (ap (option_map (pair k)) e))
       (record { leaf = leaf; cell = i }, refl, refl, record { within = f.0; pair_is = ap (λ (x : List ℕ). pair x (value_at ps i)) f.1 })
 

@@ -1,18 +1,9 @@
 -- The children of a branch, by their number.
-use Rattle.std.proofs.Common.{ℕ, zero, suc, ◌≤◌, Bool, true, false, cond, List, [], ◌∷◌, ◌++◌, map, length, arith}
+use Rattle.std.proofs.Common.{ℕ, zero, suc, List, [], ◌∷◌, ◌++◌, map}
 use Rattle.std.specs.List.{ContainsAt, flat_map, AllByRecursion}
 use Rattle.std.proofs.ByRecursion.{has_append_left, has_append_right}
-use Rattle.cuts.specs.Keys.{key<}
 use Rattle.cuts.specs.Nodes.{Cell}
-use Rattle.tree.specs.Search.{picked, child_at}
-
-pub picked_length : {X : Type 0} (k : List ℕ) (cs : List (Cell X)) → picked k cs ≤ length cs
-picked_length k [] = omega arith
-picked_length k (c ∷ cs) = by (key< k c.separator) (picked_length k cs)
-  where
-    by : (t : Bool) → picked k cs ≤ length cs → cond t 0 (suc (picked k cs)) ≤ suc (length cs)
-    by true h = omega arith
-    by false h = omega arith
+use Rattle.tree.specs.Search.{child_at}
 
 -- what holds of each child, and what stands in one of their lists
 pub all_child : {X : Type 0} (P : X → Type 0) (i : ℕ) (x : X) (cs : List (Cell X)) → AllByRecursion P (x ∷ map (λ c. c.child) cs) → P (child_at i x cs)

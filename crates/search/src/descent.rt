@@ -47,6 +47,7 @@ impl Tree {
     }
 
     // Under the child that the key lies under, and so on down to a leaf.
+    #[tactic(auto, using(tree::proofs::ByPlace::picked_within))]
     pub(crate) fn find_down<R: Reader>(
         self,
         reader: &mut R,
@@ -64,6 +65,7 @@ impl Tree {
     }
 
     // Under the child that the key lies under; if there is no such pair there, under the next child.
+    #[tactic(auto, using(tree::proofs::ByPlace::picked_within))]
     pub(crate) fn after_down<R: Reader>(
         self,
         reader: &mut R,

@@ -1,7 +1,7 @@
 -- The walk of a whole tree, and the recovery of a device.
 use Rattle.std.proofs.Common.{◌≡◌, ℕ, ◌-◌, ◌≤◌, Bool, true, false, ◌||◌, List, [], ◌∷◌, ◌++◌, reverse, get_or, Some, Ok, Err, Result, sym, refl, ap, ◌∙◌, subst, arith}
 use Rattle.std.proofs.lemmas.List.{append-nil, append_assoc, reverse-append}
-use Rattle.std.proofs.lemmas.Bool.{ne_eqb, eq-eqb}
+use Rattle.std.proofs.lemmas.Bool.{eq-eqb}
 use Rattle.std.proofs.lemmas.Bool.Decides.{nat_tests}
 use Rattle.device.specs.Medium.{Medium}
 use Rattle.device.specs.History.{History}
@@ -9,17 +9,16 @@ use Rattle.device.specs.Looking.{Looks, pages_read}
 use Rattle.device.specs.declared.fault.DeviceFault.TheVariants.{Off}
 use Rattle.device.proofs.Looking.{looks_more, reads_keep, same_pages, pages_read_append}
 use Rattle.tree.specs.Sound.{none}
-use Rattle.page.specs.declared.fault.Cause.TheVariants.{PairCount}
 use Rattle.page.specs.declared.fault.Damage.{Damage}
 use Rattle.page.specs.declared.fault.PageFault.{PageFault}
 use Rattle.page.specs.declared.fault.PageFault.TheVariants.{Device, Damaged}
 use Rattle.meta.specs.declared.Meta.{Meta}
 use Rattle.faults.specs.declared.fault.StoreFault.TheVariants.{Page}
 use Rattle.paged.specs.Paged.{PagedTree, pages_of, tree_at}
-use Rattle.paged.specs.Walk.{elem, damage, Walked, fault, fine, walk, counted, walked}
+use Rattle.paged.specs.Walk.{elem, Walked, fault, fine, walk, walked}
 use Rattle.paged.proofs.Judged.{Judged, onto, below, judged_walk, pages_found}
 use Rattle.walk.specs.Marking.{MarksAre}
-use Rattle.walk.specs.Walking.{answer, Told, Walks}
+use Rattle.walk.specs.Walking.{Told, Walks}
 use Rattle.walk.specs.Checking.{fits_pages, newest_in, holding, powered, found_on, Recovers, Newest, verdict, WalksTree}
 use Rattle.walk.specs.declared.marks.Marks.{Marks}
 
@@ -54,12 +53,7 @@ met_pages m size n root k met e =
     judged_met _ _ _ _ _ _ (judged_walk m size true n [] none root []) e
     ∙ onto_reverse (root ∷ below m n root) [] ∙ append-nil (reverse (root ∷ below m n root)) ∙ ap reverse (sym (pages_found m n root))
 
--- the answer of the walk, and of the whole tree
-err_verdict : (m : ℕ → List ℕ) (n root pairs : ℕ) (on : Bool) (w : Walked) (x : PageFault) → ◌≡◌ {A = Result ℕ PageFault} (Err x) (answer on w) → verdict on (counted m n root pairs w) ≡ Err x
-err_verdict m n root pairs false w x e = let q : Device Off ≡ x = cc in ap Err q
-err_verdict m n root pairs true (fault d) x e = let q : Damaged d ≡ x = cc in ap Err q
-err_verdict m n root pairs true (fine met k) x e = let z : ◌≡◌ {A = ℕ} 0 1 = cc in let bad : ⊥ = omega arith in absurd bad
-
+-- the answer of the walk
 ok_fine : (on : Bool) (w : Walked) (k : ℕ) (b : List Bool) (ps : List ℕ) → Told b ps on w (Ok k)
     → (on ≡ true) × ((met : List ℕ) × (w ≡ fine met k) × MarksAre b met × (ps ≡ met))
 ok_fine false w k b ps t = let e = t.answered in let z : ◌≡◌ {A = ℕ} 0 1 = cc in let bad : ⊥ = omega arith in absurd bad
@@ -70,66 +64,37 @@ ok_fine true (fine met j) k b ps t = let e = t.answered in let q : j ≡ k = cc 
 abbrev root_walk : (size : ℕ) (x : Meta) → (ℕ → List ℕ) → List ℕ → Walked
 root_walk size x f = walk f size true (x.levels - 1) [] none x.root
 
-module _ (P : History → Type 0) (m : Medium) (Q : History → Type 0) (n : Medium) (size : ℕ) (x : Meta) (b b' : List Bool) (new : MarksAre b []) where
-  broken : (f : PageFault) → Walks P m Q n size b b' (root_walk size x) (Err f) → Looks P m Q n (λ t. size ≤ m.size → WalksTree m size x n.on t (Err f))
-  broken f w = record {
-    follows = λ h p.
-        let r = w.looks.follows h p in
-        (r.0, r.1, r.2, r.3, λ sz. err_verdict m.bytes (x.levels - 1) x.root x.pairs n.on (root_walk size x m.bytes []) f (r.4 sz [] new).answered);
-  }
-
-  miscounted : (k : ℕ) → (k ≡ x.pairs → ⊥) → Walks P m Q n size b b' (root_walk size x) (Ok k)
-      → Looks P m Q n (λ t. size ≤ m.size → WalksTree m size x n.on t (Err (Damaged (damage x.root PairCount))))
-  miscounted k ne w = record {
-    follows = λ h p.
-        let r = w.looks.follows h p in (
-          r.0,
-          r.1,
-          r.2,
-          r.3,
-          λ sz.
-              let f = ok_fine n.on (root_walk size x m.bytes []) k b' _ (r.4 sz [] new) in
-              rw (f.0, f.1.1, ne_eqb k x.pairs ne),
-        );
-  }
-
-  walked_lem : (k : ℕ) (marks : Marks) → marks.marked ≡ b' → k ≡ x.pairs → Walks P m Q n size b b' (root_walk size x) (Ok k)
-      → Looks P m Q n (λ t. size ≤ m.size → WalksTree m size x n.on t (Ok marks))
-  walked_lem k marks same e w = record {
-    follows = λ h p.
-        let r = w.looks.follows h p in (
-          r.0,
-          r.1,
-          r.2,
-          r.3,
-          λ sz.
-              let f = ok_fine n.on (root_walk size x m.bytes []) k b' _ (r.4 sz [] new) in
-              let tree = tree_at m.bytes (x.levels - 1) x.root in
-              let pages = met_pages m.bytes size (x.levels - 1) x.root k f.1.0 f.1.1 in (
-                tree,
-                rw (f.0, f.1.1, eq-eqb k x.pairs e),
-                (λ p' l. ap (λ (z : List Bool). get_or z p' false) same ∙ f.1.2 p' l ∙ ap (elem p') pages ∙ elem_reverse p' (pages_of (x.levels - 1) tree)),
-                sym (append-nil (pages_read r.0)) ∙ f.1.3 ∙ pages,
-              ),
-        );
-  }
+-- a walk that finds no fault, and as many pairs as the meta says
+walked_whole : (P : History → Type 0) (m : Medium) (Q : History → Type 0) (n : Medium) (size : ℕ) (x : Meta) (b b' : List Bool) → MarksAre b []
+    → (k : ℕ) (marks : Marks) → marks.marked ≡ b' → k ≡ x.pairs → Walks P m Q n size b b' (root_walk size x) (Ok k)
+    → Looks P m Q n (λ t. size ≤ m.size → WalksTree m size x n.on t (Ok marks))
+walked_whole P m Q n size x b b' new k marks same e w = record {
+  follows = λ h p.
+      let r = w.looks.follows h p in (
+        r.0,
+        r.1,
+        r.2,
+        r.3,
+        λ sz.
+            let f = ok_fine n.on (root_walk size x m.bytes []) k b' _ (r.4 sz [] new) in
+            let tree = tree_at m.bytes (x.levels - 1) x.root in
+            let pages = met_pages m.bytes size (x.levels - 1) x.root k f.1.0 f.1.1 in (
+              tree,
+              rw (f.0, f.1.1, eq-eqb k x.pairs e),
+              (λ p' l. ap (λ (z : List Bool). get_or z p' false) same ∙ f.1.2 p' l ∙ ap (elem p') pages ∙ elem_reverse p' (pages_of (x.levels - 1) tree)),
+              sym (append-nil (pages_read r.0)) ∙ f.1.3 ∙ pages,
+            ),
+      );
+}
 
 -- The same of a reader that is lent to the walk: e is what it is when it comes back, and d what the walk left.
-module _ {D : Type 0} (past : D → History → Type 0) (medium : D → Medium) (P : History → Type 0) (m : Medium) (d e : D) (same : e ≡ d)
-    (size : ℕ) (x : Meta) (b b' : List Bool) (new : MarksAre b []) where
-  abbrev Ends : Result Marks PageFault → D → Type 0
-  Ends r o = Looks P m (past o) (medium o) (λ t. size ≤ m.size → WalksTree m size x (medium o).on t r)
-
-  pub tree_broken : (f : PageFault) → Walks P m (past d) (medium d) size b b' (root_walk size x) (Err f) → Ends (Err f) e
-  tree_broken f w = subst (Ends (Err f)) (sym same) (broken P m (past d) (medium d) size x b b' new f w)
-
-  pub tree_miscounted : (k : ℕ) → (k ≡ x.pairs → ⊥) → Walks P m (past d) (medium d) size b b' (root_walk size x) (Ok k)
-      → Ends (Err (Damaged (damage x.root PairCount))) e
-  tree_miscounted k ne w = subst (Ends (Err (Damaged (damage x.root PairCount)))) (sym same) (miscounted P m (past d) (medium d) size x b b' new k ne w)
-
-  pub tree_walked : (k : ℕ) (marks : Marks) → marks.marked ≡ b' → k ≡ x.pairs → Walks P m (past d) (medium d) size b b' (root_walk size x) (Ok k)
-      → Ends (Ok marks) e
-  tree_walked k marks is c w = subst (Ends (Ok marks)) (sym same) (walked_lem P m (past d) (medium d) size x b b' new k marks is c w)
+pub tree_walked : {D : Type 0} (past : D → History → Type 0) (medium : D → Medium) (P : History → Type 0) (m : Medium) (d e : D) → e ≡ d
+    → (size : ℕ) (x : Meta) (b b' : List Bool) → MarksAre b []
+    → (k : ℕ) (marks : Marks) → marks.marked ≡ b' → k ≡ x.pairs → Walks P m (past d) (medium d) size b b' (root_walk size x) (Ok k)
+    → Looks P m (past e) (medium e) (λ t. size ≤ m.size → WalksTree m size x (medium e).on t (Ok marks))
+tree_walked {D} past medium P m d e back size x b b' new k marks same c w =
+    subst (λ (o : D). Looks P m (past o) (medium o) (λ t. size ≤ m.size → WalksTree m size x (medium o).on t (Ok marks))) (sym back)
+    (walked_whole P m (past d) (medium d) size x b b' new k marks same c w)
 
 -- the recovery: the newest meta, then its tree
 pub room_tells : (size : ℕ) → fits_pages size ≡ true → (16 ≤ size) × (size ≤ 1024)

@@ -32,7 +32,8 @@ impl Marks {
     pub fn mark(&mut self, page: u32)
         ensures { self.new.marked ≡ slice_set self.old.marked page true }
     {
-        // by its index: of a field that a ghost field speaks of, what `get_mut` lends is not known to come back
+        // By its index: with `get_mut` the proof does not close, since what that lends out of a field that a ghost field
+        // speaks of is not known to come back.
         if page < MOST_PAGES {
             self.marked[page as usize] = true;
         }

@@ -1,77 +1,68 @@
-ghost use Rattle.std.specs.Prelude.{◌≡◌, ◌<◌, true, false, ◌||◌, None, Ok, Err};
-ghost use Rattle.device.specs.Medium.{zeros};
+ghost use Rattle.std.specs.Prelude.{◌≡◌, true, false, ◌||◌, None, Ok, Err};
+ghost use Rattle.std.specs.Fn.{FnOnceReturnsAtMut};
 ghost use Rattle.device.specs.History.{Happens, did_read, did_write, did_sync};
 ghost use Rattle.cache.specs.Held.{is_changed, slot_at};
-ghost use Rattle.cache.specs.Cached.{shown, copies_of, cache_medium, cache_past};
+ghost use Rattle.cache.specs.Cached.{pages_of, copies_of, HappensTo};
 ghost use Rattle.cache.specs.Calls.{says_off, admitted, Fetches, Stores, Syncing};
-ghost use Rattle.cache.specs.Inner.{flushed, Goes, Passes, Rooms, Finding, FlushesAll};
+ghost use Rattle.cache.specs.Inner.{answer_of, bytes_in, flushed, Goes, Rooms, Finding, FlushesAll};
 
 use crate::cache::Cache;
 use crate::copy::Copied;
+use crate::place::Place;
 use crate::slots::SLOTS;
-use device::{Device, DeviceFault, Page, Reader};
+use device::{Device, DeviceFault, PAGE_SIZE, Page, Reader};
+
+// A page of a device, as a value: of a buffer that a closure writes to, the proof of its caller would learn nothing.
+pub(super) fn read_page<R: Reader>(device: &mut R, page: u32) -> Result<Page, DeviceFault>
+    ensures { Happens (R.past device.old) (R.medium device.old) (did_read page (bytes_in result) (answer_of result)) (R.past device.new) (R.medium device.new) }
+{
+    let mut bytes = [0; PAGE_SIZE];
+    device.read(page, &mut bytes)?;
+    Ok(bytes)
+}
 
 impl<D: Device> Cache<D> {
-    // Remembers it if the device says that it is off.
-    pub(super) fn heard(&mut self, answer: Result<(), DeviceFault>) -> Result<(), DeviceFault>
-        ensures value { result ≡ answer }
-        ensures below { self.new.below ≡ self.old.below }
+    // Makes a call of the device below, and remembers it if the device says that it is off.
+    pub(super) fn ask<T, F: FnOnce(&mut D) -> Result<T, DeviceFault>>(
+        &mut self,
+        call: F,
+    ) -> Result<T, DeviceFault>
+        requires { F.IsAlwaysCallable call }
+        ensures below { FnOnceReturnsAtMut F.FnOnce call self.old.below result self.new.below }
         ensures slots { self.new.slots ≡ self.old.slots }
-        ensures off { self.new.off ≡ (says_off answer || self.old.off) }
+        ensures off { self.new.off ≡ (says_off result || self.old.off) }
     {
+        let answer = call(&mut self.below);
         if let Err(DeviceFault::Off) = answer {
             self.off = true;
         }
         answer
     }
 
-    pub(super) fn read_below(&mut self, page: u32, buffer: &mut Page) -> Result<(), DeviceFault>
-        ensures { Passes D.Reader.past D.Reader.medium self.old (did_read page buffer.new result) result self.new }
-    {
-        let answer = self.below.read(page, buffer);
-        self.heard(answer)
-    }
-
-    fn write_below(&mut self, page: u32, bytes: &Page) -> Result<(), DeviceFault>
-        ensures { Passes D.Reader.past D.Reader.medium self.old (did_write page bytes.now result) result self.new }
-    {
-        let answer = self.below.write(page, bytes);
-        self.heard(answer)
-    }
-
-    pub(super) fn sync_below(&mut self) -> Result<(), DeviceFault>
-        ensures { Passes D.Reader.past D.Reader.medium self.old (did_sync result) result self.new }
-    {
-        let answer = self.below.sync();
-        self.heard(answer)
-    }
-
     // Writes a changed page below. If that fails, the page stays changed.
-    fn flush(&mut self, i: usize) -> Result<(), DeviceFault>
-        requires { i < 8 }
-        ensures slots { self.new.slots.pages ≡ flushed result self.old.slots.pages i }
-        ensures clean { is_changed (slot_at self.old.slots.pages i) ≡ false → (result ≡ Ok tt) × (self.new ≡ self.old) }
-        ensures meaning { Goes D.Reader.past D.Reader.medium self.old result self.new }
+    fn flush(&mut self, place: Place) -> Result<(), DeviceFault>
+        ensures slots { pages_of self.new ≡ flushed result (pages_of self.old) place.number }
+        ensures clean { is_changed (slot_at (pages_of self.old) place.number) ≡ false → (result ≡ Ok tt) × (self.new ≡ self.old) }
+        ensures meaning { Goes D.Reader self.old result self.new }
     {
-        let Some(copy) = self.slots.get(i) else {
+        let Some(copy) = self.slots.get(place) else {
             return Ok(());
         };
         if !copy.changed {
             return Ok(());
         }
-        self.write_below(copy.page, &copy.bytes)?;
+        self.ask(|below| below.write(copy.page, &copy.bytes))?;
         let clean = Copied {
-            page: copy.page,
             changed: false,
-            bytes: copy.bytes,
+            ..copy
         };
-        self.slots.put(i, clean);
+        self.slots.put(place, clean);
         Ok(())
     }
 
     // Refuses a page outside the device, and then every page if the device is off.
     pub(super) fn admit(&self, page: u32) -> Result<(), DeviceFault>
-        ensures { result ≡ admitted (D.Reader.medium self.now.below).size self.now.off page }
+        ensures { result ≡ admitted D.Reader self.now page }
     {
         if page >= self.below.pages() {
             return Err(DeviceFault::Outside);
@@ -82,84 +73,68 @@ impl<D: Device> Cache<D> {
         Ok(())
     }
 
-    // Copies the page in a slot into the buffer.
-    pub(super) fn show(&mut self, i: usize, buffer: &mut Page)
-        requires within { i < 8 }
-        ensures below { self.new.below ≡ self.old.below }
-        ensures pages { self.new.slots.pages ≡ self.old.slots.pages }
-        ensures off { self.new.off ≡ self.old.off }
-        ensures shows { buffer.new ≡ shown (slot_at self.old.slots.pages i) buffer.old }
-    {
-        if let Some(copy) = self.slots.get(i) {
-            let bytes = copy.bytes;
-            *buffer = bytes;
-        }
-        self.slots.touch(i);
-    }
-
     // A slot for a page that is not held. A changed page that leaves it is written below first.
-    fn room(&mut self) -> Result<usize, DeviceFault>
-        ensures { Rooms D.Reader.past D.Reader.medium self.old result self.new }
+    fn room(&mut self) -> Result<Place, DeviceFault>
+        ensures { Rooms D.Reader self.old result self.new }
     {
-        let i = self.slots.oldest();
-        self.flush(i)?;
-        Ok(i)
+        let place = self.slots.oldest();
+        self.flush(place)?;
+        Ok(place)
     }
 
-    // The slot that has the page, or one that it may go to.
-    fn slot_for(&mut self, page: u32) -> Result<usize, DeviceFault>
-        ensures { Finding D.Reader.past D.Reader.medium self.old page result self.new }
+    // The slot that has the page, or one that it may go to. By `map_or_else` the proof would not learn that a closure
+    // that is not called leaves the cache as it was.
+    fn slot_for(&mut self, page: u32) -> Result<Place, DeviceFault>
+        ensures { Finding D.Reader self.old page result self.new }
     {
         match self.slots.find(page) {
-            Some(i) => Ok(i),
+            Some(place) => Ok(place),
             None => self.room(),
         }
     }
 
     // Reads a page that is not held below, and holds it.
-    pub(super) fn fetch(&mut self, page: u32, buffer: &mut Page) -> Result<(), DeviceFault>
-        requires admits { admitted (D.Reader.medium self.old.below).size self.old.off page ≡ Ok tt }
+    pub(super) fn fetch(&mut self, page: u32) -> Result<Page, DeviceFault>
+        requires admits { admitted D.Reader self.old page ≡ Ok tt }
         requires misses { copies_of self.old page ≡ None }
-        requires clear { buffer.old ≡ zeros }
-        ensures meaning { Happens (cache_past D.Reader.past D.Reader.medium self.old) (cache_medium D.Reader.medium self.old) (did_read page buffer.new result) (cache_past D.Reader.past D.Reader.medium self.new) (cache_medium D.Reader.medium self.new) }
-        ensures fetches { Fetches D.Reader.past D.Reader.medium self.old page buffer.new result self.new }
+        ensures meaning { HappensTo D.Reader self.old (did_read page (bytes_in result) (answer_of result)) self.new }
+        ensures fetches { Fetches D.Reader self.old page (bytes_in result) (answer_of result) self.new }
     {
-        let i = self.room()?;
-        self.read_below(page, buffer)?;
-        let bytes = *buffer;
+        let place = self.room()?;
+        let bytes = self.ask(|below| read_page(below, page))?;
         let copy = Copied {
             page,
             changed: false,
             bytes,
         };
-        self.slots.put(i, copy);
-        self.slots.touch(i);
-        Ok(())
+        self.slots.put(place, copy);
+        self.slots.touch(place);
+        Ok(bytes)
     }
 
     // Writes a page to its slot.
     pub(super) fn store(&mut self, page: u32, bytes: &Page) -> Result<(), DeviceFault>
-        requires { admitted (D.Reader.medium self.old.below).size self.old.off page ≡ Ok tt }
-        ensures meaning { Happens (cache_past D.Reader.past D.Reader.medium self.old) (cache_medium D.Reader.medium self.old) (did_write page bytes.now result) (cache_past D.Reader.past D.Reader.medium self.new) (cache_medium D.Reader.medium self.new) }
+        requires { admitted D.Reader self.old page ≡ Ok tt }
+        ensures meaning { HappensTo D.Reader self.old (did_write page bytes.now result) self.new }
         ensures stores { Stores self.old page bytes.now result self.new }
     {
-        let i = self.slot_for(page)?;
+        let place = self.slot_for(page)?;
         let copy = Copied {
             page,
             changed: true,
             bytes: *bytes,
         };
-        self.slots.put(i, copy);
-        self.slots.touch(i);
+        self.slots.put(place, copy);
+        self.slots.touch(place);
         Ok(())
     }
 
     // Writes every changed page below.
     fn flush_all(&mut self) -> Result<(), DeviceFault>
-        ensures { FlushesAll D.Reader.past D.Reader.medium self.old result self.new }
+        ensures { FlushesAll D.Reader self.old result self.new }
     {
-        for slot in 0..SLOTS {
-            self.flush(slot)?;
+        for number in 0..SLOTS {
+            self.flush(Place { number })?;
         }
         Ok(())
     }
@@ -167,10 +142,10 @@ impl<D: Device> Cache<D> {
     // Makes every page durable. The changed ones are written below before the device is synced.
     pub(super) fn settle(&mut self) -> Result<(), DeviceFault>
         requires { self.old.off ≡ false }
-        ensures meaning { Happens (cache_past D.Reader.past D.Reader.medium self.old) (cache_medium D.Reader.medium self.old) (did_sync result) (cache_past D.Reader.past D.Reader.medium self.new) (cache_medium D.Reader.medium self.new) }
-        ensures exact { Syncing D.Reader.past D.Reader.medium false self.old result self.new }
+        ensures meaning { HappensTo D.Reader self.old (did_sync result) self.new }
+        ensures exact { Syncing D.Reader false self.old result self.new }
     {
         self.flush_all()?;
-        self.sync_below()
+        self.ask(|below| below.sync())
     }
 }

@@ -22,7 +22,8 @@ impl CellPage<BranchCell> {
     }
 
     // The branch with two pages and the separator between them for child i: one page, or two; none, if it has no
-    // such child, or that cannot be a separator there.
+    // such child, or that cannot be a separator there. (The three stand as they do in the branch; a struct of them would be
+    // made at each call only to be taken apart.)
     pub fn insert(
         &self,
         i: usize,
@@ -44,7 +45,7 @@ impl CellPage<BranchCell> {
             return None;
         }
         let base = self.with_child(i, page)?;
-        Some(base.without_cell(i))
+        Some(base.without(i))
     }
 
     // The branch with two pages and another separator between them for child i and the next: one page, or two;

@@ -40,7 +40,8 @@ impl Splice<'_, BranchCell> {
         self.middle_cut()
     }
 
-    // The cells as one branch, or as two where they are too many for one.
+    // The cells as one branch, or as two where they are too many for one. Not one function with that of leaves: they cut by
+    // other rules, and what a leaf has to make for a separator is a cell that a branch gives up.
     fn branches(&self, leftmost: u32) -> Grown<BranchPage>
         requires { cost (cells_in self.now) ≤ 691 }
         ensures { branch_grown result ≡ fitted_branch (branch leftmost (map cell_of (cells_in self.now))) }
@@ -63,31 +64,7 @@ impl CellPage<BranchCell> {
     pub(crate) fn with_first(&self, leftmost: u32) -> BranchPage
         ensures { branch_node result ≡ branch leftmost (branch_node self.now).rest }
     {
-        let cells = self.cells();
-        let list = Splice {
-            front: cells,
-            keep: 0,
-            middle: None,
-            back: cells,
-            skip: 0,
-        };
-        list.whole(leftmost)
-    }
-
-    // All cells but one.
-    pub(crate) fn without_cell(&self, i: usize) -> BranchPage
-        requires { i < length (branch_node self.now).rest }
-        ensures { branch_node result ≡ branch (branch_node self.now).first (take i (branch_node self.now).rest ++ drop (i + 1) (branch_node self.now).rest) }
-    {
-        let cells = self.cells();
-        let list = Splice {
-            front: cells,
-            keep: i,
-            middle: None,
-            back: cells,
-            skip: i + 1,
-        };
-        list.whole(cells.leftmost())
+        self.splice(0, None, self, 0).whole(leftmost)
     }
 
     // Another cell with the same separator in place of one.
@@ -97,15 +74,8 @@ impl CellPage<BranchCell> {
         requires same { branch_key cell.now ≡ separator_at i (branch_node self.now).rest }
         ensures { branch_node result ≡ around self.now i (cell_of cell.now) self.now (i + 1) }
     {
-        let cells = self.cells();
-        let list = Splice {
-            front: cells,
-            keep: i,
-            middle: Some(cell),
-            back: cells,
-            skip: i + 1,
-        };
-        list.whole(cells.leftmost())
+        let leftmost = self.cells().leftmost();
+        self.splice(i, Some(cell), self, i + 1).whole(leftmost)
     }
 
     // Another child for one of the cells.
@@ -132,15 +102,8 @@ impl CellPage<BranchCell> {
         requires few { cost_around self.now keep back.now skip ≤ 619 }
         ensures { branch_grown result ≡ fitted_branch (around self.now keep (cell_of cell.now) back.now skip) }
     {
-        let front = self.cells();
-        let list = Splice {
-            front,
-            keep,
-            middle: Some(cell),
-            back: back.cells(),
-            skip,
-        };
-        list.branches(front.leftmost())
+        let leftmost = self.cells().leftmost();
+        self.splice(keep, Some(cell), back, skip).branches(leftmost)
     }
 
     // Whether a separator is above those of the first cells.

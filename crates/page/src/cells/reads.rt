@@ -61,7 +61,8 @@ impl<'a, C: Cell> Cells<'a, C> {
         true
     }
 
-    // How many of the keys are at most the one sought: the place of the first greater one.
+    // How many of the keys are at most the one sought: the place of the first greater one. The cells are no slice, of
+    // which the library could find the partition point.
     pub(crate) fn place_above(&self, sought: &[u8]) -> usize
         requires { rising C.rules.key (cells_of self.now.page.now) ≡ true }
         ensures { result ≡ up_to C.rules.key sought.now (cells_of self.now.page.now) }

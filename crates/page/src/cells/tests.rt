@@ -16,15 +16,11 @@ use std::marker::PhantomData;
 
 // Whether the bytes from one place up to another are zero.
 fn is_zero(page: &Page, from: usize, to: usize) -> bool
-    requires { to ≤ 512 }
+    requires ordered { from ≤ to }
+    requires within { to ≤ 512 }
     ensures { Decides result ((k : ℕ) → from ≤ k → k < to → slice_index page.now k ≡ 0) }
 {
-    for k in from..to {
-        if page[k] != 0 {
-            return false;
-        }
-    }
-    true
+    page[from..to].iter().all(|b| *b == 0)
 }
 
 // Whether the cells are good, and lie one below the other from the end of the page.

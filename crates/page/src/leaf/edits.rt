@@ -75,31 +75,7 @@ impl CellPage<LeafCell> {
         requires rises { Rising (take keep (leaf_pairs self.now) ++ (pair_of cell.now ∷ drop skip (leaf_pairs self.now))) }
         ensures { leaf_grown result ≡ fitted (take keep (leaf_pairs self.now) ++ (pair_of cell.now ∷ drop skip (leaf_pairs self.now))) }
     {
-        let cells = self.cells();
-        let list = Splice {
-            front: cells,
-            keep,
-            middle: Some(cell),
-            back: cells,
-            skip,
-        };
-        list.leaves()
-    }
-
-    // All cells of a leaf but one.
-    pub(crate) fn without(&self, i: usize) -> LeafPage
-        requires { i < length (leaf_pairs self.now) }
-        ensures { leaf_pairs result ≡ take i (leaf_pairs self.now) ++ drop (i + 1) (leaf_pairs self.now) }
-    {
-        let cells = self.cells();
-        let list = Splice {
-            front: cells,
-            keep: i,
-            middle: None,
-            back: cells,
-            skip: i + 1,
-        };
-        list.whole(0)
+        self.splice(keep, Some(cell), self, skip).leaves()
     }
 
     // Whether the keys still rise where the cells of another leaf follow.
@@ -123,14 +99,6 @@ impl CellPage<LeafCell> {
         requires rises { rising leaf_key (cells_of self.now.bytes ++ cells_of right.now.bytes) ≡ true }
         ensures { leaf_grown result ≡ fitted (leaf_pairs self.now ++ leaf_pairs right.now) }
     {
-        let front = self.cells();
-        let list = Splice {
-            front,
-            keep: front.len(),
-            middle: None,
-            back: right.cells(),
-            skip: 0,
-        };
-        list.leaves()
+        self.splice(self.len(), None, right, 0).leaves()
     }
 }

@@ -2,7 +2,7 @@ use Rattle.std.proofs.Common.{◌∙◌, arith}
 use Rattle.std.proofs.lemmas.Result.{err_from_is_err_and}
 use Rattle.page.specs.Views.{branch_in}
 use Rattle.search.specs.Following.{find_next}
-use Rattle.search.proofs.Parts.{picked_length}
+use Rattle.tree.proofs.ByPlace.{picked_within}
 use Rattle.search.proofs.Loading.{leaf_refused, branch_refused, load_leaf, next_failed, next_found, next_nowhere, next_beside}
 use Rattle.search.proofs.Tree.+after_down.Goals as goal
 
@@ -22,10 +22,6 @@ returns-in_err-branch g t c =
     rw (q.1, q.2)
     (branch_refused c.args.self (find_next c.args.key.now) _ c.if-self-eq0.false c.in_err-branch.ensures)
 
-pub under-requires-clause-within : goal.under-requires-clause-within
-under-requires-clause-within g t c =
-    omega (arith, c.place-i.ensures, picked_length c.args.key.now (branch_in c.in_ok-branch.branch.bytes).rest)
-
 pub returns-in_err-place : goal.returns-in_err-place
 returns-in_err-place g t c =
     let q = err_from_is_err_and c.from_residual-in_err-place.result c.from_residual-in_err-place.ensures.1 in
@@ -42,18 +38,9 @@ returns-then-i-len g t c =
     next_nowhere c.in_ok-branch.branch c.args.self c.place-i.result c.under.result c.args.key.now c.if-self-eq0.false c.in_ok-branch.ensures c.place-i.ensures c.under.ensures
     c.in_ok-place.field-0 c.in_ok-place.ensures c.in_default.is (c.if-i-len.true ∙ c.len.ensures)
 
--- child i is not the last one
-pub under-requires-2-clause-within : goal.under-requires-2-clause-within
-under-requires-2-clause-within g t c =
-    omega (arith, c.place-i.ensures, c.len.ensures, c.if-i-len.false, picked_length c.args.key.now (branch_in c.in_ok-branch.branch.bytes).rest)
-
-pub overflow_add-i : goal.overflow_add-i
-overflow_add-i g t c =
-    omega (arith, c.place-i.ensures, c.len.ensures, c.len.type_inv, picked_length c.args.key.now (branch_in c.in_ok-branch.branch.bytes).rest)
-
 pub returns : goal.returns
 returns g t c =
     next_beside c.in_ok-branch.branch c.args.self c.place-i.result c.under.result c.args.key.now c.if-self-eq0.false c.in_ok-branch.ensures c.place-i.ensures c.under.ensures
     c.in_ok-place.field-0 c.in_ok-place.ensures c.under-2.result c.after_down-2.result c.in_default.is
-    (omega (arith, c.place-i.ensures, c.len.ensures, c.if-i-len.false, picked_length c.args.key.now (branch_in c.in_ok-branch.branch.bytes).rest))
+    (omega (arith, c.place-i.ensures, c.len.ensures, c.if-i-len.false, picked_within c.args.key.now (branch_in c.in_ok-branch.branch.bytes).rest))
     c.under-2.ensures c.after_down-2.ensures

@@ -1,8 +1,5 @@
-use Rattle.std.proofs.Common.{arith}
 use Rattle.std.proofs.lemmas.Result.{err_from_is_err_and}
-use Rattle.page.specs.Views.{branch_in}
 use Rattle.search.specs.Following.{find_pair}
-use Rattle.search.proofs.Parts.{picked_length}
 use Rattle.search.proofs.Loading.{leaf_refused, branch_refused, load_leaf, found_there}
 use Rattle.search.proofs.Tree.+find_down.Goals as goal
 
@@ -21,10 +18,6 @@ returns-in_err-branch g t c =
     let q = err_from_is_err_and c.from_residual-in_err-branch.result c.from_residual-in_err-branch.ensures.1 in
     rw (q.1, q.2)
     (branch_refused c.args.self (find_pair c.args.key.now) _ c.if-self-eq0.false c.in_err-branch.ensures)
-
-pub under-child-requires-clause-within : goal.under-child-requires-clause-within
-under-child-requires-clause-within g t c =
-    omega (arith, c.place.ensures, picked_length c.args.key.now (branch_in c.in_ok-branch.branch.bytes).rest)
 
 pub returns : goal.returns
 returns g t c =

@@ -1,5 +1,5 @@
 use Rattle.cache.specs.Inner.{FlushedTo}
 use Rattle.cache.proofs.cache.Cache.flush_all.Given as goal
 
-abbrev pub invariant-loop-slot : goal.invariant-loop-slot
-invariant-loop-slot g l = FlushedTo g.D.Reader.past g.D.Reader.medium l.initial.self l.slot l.self
+abbrev pub invariant-loop-number : goal.invariant-loop-number
+invariant-loop-number g l = FlushedTo g.D.Reader l.initial.self l.number l.self

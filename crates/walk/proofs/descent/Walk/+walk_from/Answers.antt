@@ -4,13 +4,12 @@ use Rattle.std.proofs.lemmas.List.{drop_all}
 use Rattle.device.specs.Medium.{Medium}
 use Rattle.device.specs.History.{History}
 use Rattle.device.specs.Looking.{Looks, pages_read}
-use Rattle.page.specs.Kinds.{leaf_rules}
 use Rattle.page.specs.CellPages.{BranchPage}
 use Rattle.page.specs.declared.fault.PageFault.{PageFault}
 use Rattle.page.specs.CellPages.{LeafPage}
 use Rattle.page.specs.Views.{branch_node}
 use Rattle.paged.specs.Walk.{leaf_fault, branch_fault, slots_of, walk}
-use Rattle.paged.proofs.Accepted.{none_of, leaf_has}
+use Rattle.paged.proofs.Accepted.{leaf_page_has}
 use Rattle.walk.specs.Marking.{MarksAre, marked, free}
 use Rattle.walk.specs.Spots.{low_of, high_of, slot_of}
 use Rattle.walk.specs.Walking.{Told}
@@ -33,8 +32,7 @@ returns-in_err-leaf-clause-walks g t c =
 
 pub overflow_cast-result : goal.overflow_cast-result
 overflow_cast-result g t c =
-    let l = c.in_ok-leaf.leaf in
-    omega (arith, (leaf_has l.bytes (none_of leaf_rules l.bytes l.sound)).few, c.len.ensures)
+    omega (arith, (leaf_page_has c.in_ok-leaf.leaf).few, c.len.ensures)
 
 pub returns-then-height-eq0-clause-walks : goal.returns-then-height-eq0-clause-walks
 unfolding leaf_fault
@@ -45,7 +43,7 @@ returns-then-height-eq0-clause-walks g t c =
     let r = c.in_ok-leaf.ensures in
     rw c.mark.ensures
     (walks_leaf (g.R.Reader.past w.reader.now) (g.R.Reader.medium w.reader.now) (g.R.Reader.past c.load.new.reader) (g.R.Reader.medium c.load.new.reader) w.size s.is_root c.args.height (low_of s) (high_of s) s.page w.met.marked
-    c.requires.small c.requires.inside w.met.long c.requires.unmet l.bytes c.len.result c.if-height-eq0.true r.0 r.1 c.len.ensures (omega (arith, (leaf_has l.bytes (none_of leaf_rules l.bytes l.sound)).few, c.len.ensures)))
+    c.requires.small c.requires.inside w.met.long c.requires.unmet l.bytes c.len.result c.if-height-eq0.true r.0 r.1 c.len.ensures (omega (arith, (leaf_page_has l).few, c.len.ensures)))
 
 pub returns-in_err-branch-clause-walks : goal.returns-in_err-branch-clause-walks
 unfolding branch_fault

@@ -1,29 +1,16 @@
-use Rattle.std.proofs.Common.{sym, ◌∙◌, rules}
+use Rattle.std.proofs.Common.{sym, ◌∙◌}
 use Rattle.std.proofs.lemmas.Result.{err_from_is_err_and}
-use Rattle.walk.proofs.Trees.{room_tells, tree_refused, tree_found}
+use Rattle.walk.proofs.Trees.{tree_refused, tree_found}
 use Rattle.walk.proofs.inspection.calls.recover.Goals as goal
 
-pub walk_tree-requires : goal.walk_tree-requires
-walk_tree-requires g c = record {
-  small = (room_tells c.pages-size.result (sym c.has_room.ensures ∙ c.if-not-has_room.false)).1;
-  rooted = rw c.in-Some.is at c.in_ok-meta.ensures.rooted;
-}
-
-pub returns-in_err-marks : goal.returns-in_err-marks
-returns-in_err-marks g c =
+pub returns-in_err-marks-clause-found : goal.returns-in_err-marks-clause-found
+returns-in_err-marks-clause-found g c =
     let q = err_from_is_err_and c.from_residual-in_err-marks.result c.from_residual-in_err-marks.ensures.1 in
     rw (q.1, q.2)
-    (record {
-      fits = tt;
-      found =
-          tree_refused (g.R.Reader.past c.args.reader.now) (g.R.Reader.medium c.args.reader.now) (g.R.Reader.past c.newest.new.reader) (g.R.Reader.medium c.newest.new.reader) c.pages-size.result c.pages-size.ensures (sym c.has_room.ensures ∙ c.if-not-has_room.false)
-          c.in-Some.meta (rw c.in-Some.is at c.in_ok-meta.ensures.reads) _ _ _ c.in_err-marks.ensures;
-    })
+    (tree_refused (g.R.Reader.past c.args.reader.now) (g.R.Reader.medium c.args.reader.now) (g.R.Reader.past c.newest.new.reader) (g.R.Reader.medium c.newest.new.reader) c.pages-size.result c.pages-size.ensures (sym c.has_room.ensures ∙ c.if-not-has_room.false)
+    c.in-Some.meta (rw c.in-Some.is at c.in_ok-meta.ensures.reads) _ _ _ c.in_err-marks.ensures)
 
-pub returns : goal.returns
-returns g c = record {
-  fits = search rules;
-  found =
-      tree_found (g.R.Reader.past c.args.reader.now) (g.R.Reader.medium c.args.reader.now) (g.R.Reader.past c.newest.new.reader) (g.R.Reader.medium c.newest.new.reader) c.pages-size.result c.pages-size.ensures (sym c.has_room.ensures ∙ c.if-not-has_room.false)
-      c.in-Some.meta (rw c.in-Some.is at c.in_ok-meta.ensures.reads) _ _ c.in_ok-marks.marks c.in_ok-marks.ensures;
-}
+pub returns-clause-found : goal.returns-clause-found
+returns-clause-found g c =
+    tree_found (g.R.Reader.past c.args.reader.now) (g.R.Reader.medium c.args.reader.now) (g.R.Reader.past c.newest.new.reader) (g.R.Reader.medium c.newest.new.reader) c.pages-size.result c.pages-size.ensures (sym c.has_room.ensures ∙ c.if-not-has_room.false)
+    c.in-Some.meta (rw c.in-Some.is at c.in_ok-meta.ensures.reads) _ _ c.in_ok-marks.marks c.in_ok-marks.ensures

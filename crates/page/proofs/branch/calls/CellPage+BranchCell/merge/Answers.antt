@@ -1,13 +1,22 @@
-use Rattle.std.proofs.Common.{arith}
-use Rattle.page.proofs.BranchSteps.{base_length, merges}
+use Rattle.std.proofs.Common.{◌+◌, ap, ◌∙◌, arith}
+use Rattle.std.proofs.lemmas.List.{length-map}
+use Rattle.tree.specs.Trees.{branch}
+use Rattle.page.specs.Kinds.{cell_of}
+use Rattle.page.specs.Layout.{cells_of, left_of}
+use Rattle.page.proofs.BranchLists.{joined_cells}
+use Rattle.page.proofs.BranchSteps.{base_length, merges, node_is}
 use Rattle.page.proofs.branch.calls.CellPage+BranchCell.merge.Goals as goal
 
-pub without_cell-requires : goal.without_cell-requires
-without_cell-requires c =
-    let e = c.in_ok-base.ensures in
-    omega (arith, base_length c.args.self.now c.in_ok-base.base c.args.i c.args.page e.1)
+pub without-requires : goal.without-requires
+without-requires c =
+    let q = c.in_ok-base.base in
+    omega (arith, base_length c.args.self.now q c.args.i c.args.page c.in_ok-base.ensures.1, length-map (cells_of q.bytes) cell_of)
 
 pub returns : goal.returns
 returns c =
-    let e = c.in_ok-base.ensures in
-    (omega arith, merges c.args.self.now c.in_ok-base.base c.args.i c.args.page _ e.1 (omega arith) c.without_cell.ensures)
+    let i = c.args.i in
+    let q = c.in_ok-base.base in
+    let xs = cells_of q.bytes in
+    let w = c.without in
+    let n = node_is w.result (left_of q.bytes) _ w.ensures.left w.ensures.cells ∙ ap (branch (left_of q.bytes)) (joined_cells xs xs i (i + 1)) in
+    (omega arith, merges c.args.self.now q i c.args.page _ c.in_ok-base.ensures.1 (omega arith) n)

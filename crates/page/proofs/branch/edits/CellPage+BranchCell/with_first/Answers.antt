@@ -1,7 +1,17 @@
-use Rattle.std.proofs.Common.{ap, ◌∙◌}
-use Rattle.page.specs.Layout.{cells_of}
+use Rattle.std.proofs.Common.{refl, ap, ◌∙◌, arith}
+use Rattle.page.specs.Kinds.{branch_rules}
+use Rattle.page.specs.Layout.{cost}
 use Rattle.page.proofs.BranchSteps.{node_is}
+use Rattle.page.proofs.Children.{page_parts}
 use Rattle.page.proofs.branch.edits.CellPage+BranchCell.with_first.Goals as goal
 
+pub splice-requires : goal.splice-requires
+splice-requires c = record { keep = omega arith; skip = omega arith; good = refl; rises = (page_parts branch_rules c.args.self.now.bytes c.args.self.now.sound).2 }
+
+pub whole-requires : goal.whole-requires
+whole-requires c =
+    let p = page_parts branch_rules c.args.self.now.bytes c.args.self.now.sound in
+    record { room = omega (arith, ap cost c.splice.ensures, p.0.room); leftmost = refl }
+
 pub returns : goal.returns
-returns c = node_is c.whole.result c.args.leftmost _ c.whole.ensures.left (c.whole.ensures.cells ∙ ap cells_of c.cells-cells.ensures.same)
+returns c = node_is c.whole.result c.args.leftmost _ c.whole.ensures.left (c.whole.ensures.cells ∙ c.splice.ensures)
