@@ -1,36 +1,17 @@
 // Branches; the checksum of a whole page was computed by another program.
+use crate::grown::{one, two};
 use crate::texts::is;
-use page::{BranchPage, Cause, Grown, LeafPage};
+use page::{BranchPage, Cause, LeafPage};
 use std::test::Fail;
 
-// The branch with a child more, which has to fit.
-fn insert(
-    branch: &BranchPage,
-    i: usize,
-    left: u32,
-    separator: &[u8],
-    right: u32,
-) -> Result<BranchPage, Fail> {
-    let Some(grown) = branch.insert(i, left, separator, right) else {
-        return Err(Fail::new("not inserted"));
-    };
-    match grown {
-        Grown::One(branch) => Ok(branch),
-        Grown::Two(_, _, _) => Err(Fail::new("cut")),
-    }
-}
-
 fn root(left: u32, separator: &[u8], right: u32) -> Result<BranchPage, Fail> {
-    match BranchPage::root(left, separator, right) {
-        Some(branch) => Ok(branch),
-        None => Err(Fail::new("no root")),
-    }
+    Ok(BranchPage::root(left, separator, right).ok_or("no root")?)
 }
 
 // 5 "cab13" 6 "tr" 9
 fn three_children() -> Result<BranchPage, Fail> {
     let branch = root(5, b"cab13", 6)?;
-    insert(&branch, 1, 6, b"tr", 9)
+    one(branch.insert(1, 6, b"tr", 9))
 }
 
 #[test]
@@ -57,13 +38,8 @@ fn bytes_of_a_branch(rt: HostRuntime) -> Result<(), Fail> {
     assert!(rt; &bytes[16..20] == [0xf5, 1, 0xed, 1].as_slice());
     assert!(rt; &bytes[493..501] == [2, 0, 9, 0, 0, 0, 0x74, 0x72].as_slice());
     assert!(rt; BranchPage::read(bytes).is_ok());
-    match LeafPage::read(bytes) {
-        Ok(_) => Err(Fail::new("read as a leaf")),
-        Err(cause) => {
-            assert_eq!(rt; cause, Cause::Kind);
-            Ok(())
-        },
-    }
+    assert_eq!(rt; LeafPage::read(bytes).err(), Some(Cause::Kind));
+    Ok(())
 }
 
 // A key goes to the child between the separator that is at most the key, and the one above it.
@@ -94,28 +70,16 @@ fn separators_out_of_bounds_or_order_are_refused(rt: HostRuntime) -> Result<(), 
 fn overfull_branch_gives_up_its_middle(rt: HostRuntime) -> Result<(), Fail> {
     let mut branch = root(1, &[1; 64], 2)?;
     for i in 1..6u8 {
-        branch = insert(
-            &branch,
-            i as usize,
-            i as u32 + 1,
-            &[i + 1; 64],
-            i as u32 + 2,
-        )?;
+        let next = u32::from(i) + 1;
+        branch = one(branch.insert(usize::from(i), next, &[i + 1; 64], next + 1))?;
     }
     assert_eq!(rt; branch.len(), 6);
-    let Some(grown) = branch.insert(6, 7, &[7; 64], 8) else {
-        return Err(Fail::new("not inserted"));
-    };
-    match grown {
-        Grown::One(_) => Err(Fail::new("not cut")),
-        Grown::Two(left, separator, right) => {
-            assert_eq!(rt; left.len(), 3);
-            assert!(rt; separator.as_slice() == [4; 64].as_slice());
-            assert_eq!(rt; right.len(), 3);
-            assert_eq!(rt; right.child(0), Some(5));
-            Ok(())
-        }
-    }
+    let (left, separator, right) = two(branch.insert(6, 7, &[7; 64], 8))?;
+    assert_eq!(rt; left.len(), 3);
+    assert!(rt; separator.as_slice() == [4; 64].as_slice());
+    assert_eq!(rt; right.len(), 3);
+    assert_eq!(rt; right.child(0), Some(5));
+    Ok(())
 }
 
 #[test]
@@ -123,17 +87,10 @@ fn joined_branches_take_the_separator_between(rt: HostRuntime) -> Result<(), Fai
     let left = three_children()?;
     let right = root(11, b"zzz", 12)?;
     assert!(rt; left.join(b"aa", &right).is_none());
-    let Some(grown) = left.join(b"zz", &right) else {
-        return Err(Fail::new("not joined"));
-    };
-    match grown {
-        Grown::One(branch) => {
-            assert_eq!(rt; branch.len(), 4);
-            assert!(rt; is(branch.separator(2), b"zz"));
-            assert_eq!(rt; branch.child(3), Some(11));
-            assert_eq!(rt; branch.child(4), Some(12));
-            Ok(())
-        }
-        Grown::Two(_, _, _) => Err(Fail::new("cut")),
-    }
+    let branch = one(left.join(b"zz", &right))?;
+    assert_eq!(rt; branch.len(), 4);
+    assert!(rt; is(branch.separator(2), b"zz"));
+    assert_eq!(rt; branch.child(3), Some(11));
+    assert_eq!(rt; branch.child(4), Some(12));
+    Ok(())
 }

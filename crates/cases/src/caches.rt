@@ -2,6 +2,7 @@
 use cache::Cache;
 use device::{Device, DeviceFault, Page, PowerCycle, Reader};
 use disks::{WriteBehind, WriteThrough};
+use std::alloc::AllocError;
 use std::process::Abort;
 use std::test::Fail;
 
@@ -11,12 +12,7 @@ const ROUNDS: u8 = 3;
 
 // The byte that fills a page, if one byte does.
 fn filled_with(page: &Page) -> Option<u8> {
-    for b in page {
-        if *b != page[0] {
-            return None;
-        }
-    }
-    Some(page[0])
+    page.iter().all(|b| *b == page[0]).then_some(page[0])
 }
 
 // Writes each page, and syncs. In each page stands the number of the round.
@@ -31,14 +27,10 @@ fn round<D: Device>(device: &mut D, number: u8) -> Result<(), DeviceFault> {
 
 // The last round that was acknowledged. Power may fail in the next.
 fn rounds<D: Device>(device: &mut D) -> u8 {
-    let mut done = 0;
-    for number in 1..=ROUNDS {
-        match round(device, number) {
-            Ok(()) => done = number,
-            Err(_) => return done,
-        }
-    }
-    done
+    (1..=ROUNDS)
+        .take_while(|number| round(device, *number).is_ok())
+        .last()
+        .unwrap_or(0)
 }
 
 // After a power return each page is whole, from the last acknowledged round or the one after. Power returns
@@ -48,10 +40,8 @@ fn check_after<D: PowerCycle>(rt: &impl Abort, device: &mut D, done: u8) -> Resu
     for page in 0..PAGES {
         device.power_return();
         device.read(page, &mut buffer)?;
-        match filled_with(&buffer) {
-            Some(number) => assert!(rt; number == done || number == done.saturating_add(1)),
-            None => return Err(Fail::new("a torn page")),
-        }
+        let number = filled_with(&buffer).ok_or("a torn page")?;
+        assert!(rt; number == done || number == done.saturating_add(1));
     }
     Ok(())
 }
@@ -66,33 +56,38 @@ fn cut<D: PowerCycle>(rt: &impl Abort, device: &mut D) -> Result<u8, Fail> {
 // Past the last call that the rounds make.
 const PAST: u64 = 80;
 
-#[test]
-fn cached_write_behind_is_cut_at_each_call(rt: HostRuntime) -> Result<(), Fail> {
-    for limit in 3..PAST {
-        let mut device = Cache::new(WriteBehind::new(rt.alloc(), PAGES, limit)?);
-        cut(&rt, &mut device)?;
+// The device that a limit makes, cut at each limit from the first.
+fn cut_at_each<D: PowerCycle + Drop, F: Fn(u64) -> Result<D, AllocError>>(
+    rt: &impl Abort,
+    first: u64,
+    make: F,
+) -> Result<(), Fail>
+    requires { F.IsAlwaysCallable make }
+{
+    for limit in first..PAST {
+        cut(rt, &mut make(limit)?)?;
     }
     Ok(())
+}
+
+#[test]
+fn cached_write_behind_is_cut_at_each_call(rt: HostRuntime) -> Result<(), Fail> {
+    cut_at_each(&rt, 3, |limit| {
+        Ok(Cache::new(WriteBehind::new(rt.alloc(), PAGES, limit)?))
+    })
 }
 
 #[test]
 fn cached_write_through_is_cut_at_each_call(rt: HostRuntime) -> Result<(), Fail> {
-    for limit in 3..PAST {
-        let mut device = Cache::new(WriteThrough::new(rt.alloc(), PAGES, limit)?);
-        cut(&rt, &mut device)?;
-    }
-    Ok(())
+    cut_at_each(&rt, 3, |limit| {
+        Ok(Cache::new(WriteThrough::new(rt.alloc(), PAGES, limit)?))
+    })
 }
 
 #[test]
 fn bare_devices_are_cut_at_each_call(rt: HostRuntime) -> Result<(), Fail> {
-    for limit in 2..PAST {
-        let mut behind = WriteBehind::new(rt.alloc(), PAGES, limit)?;
-        cut(&rt, &mut behind)?;
-        let mut through = WriteThrough::new(rt.alloc(), PAGES, limit)?;
-        cut(&rt, &mut through)?;
-    }
-    Ok(())
+    cut_at_each(&rt, 2, |limit| WriteBehind::new(rt.alloc(), PAGES, limit))?;
+    cut_at_each(&rt, 2, |limit| WriteThrough::new(rt.alloc(), PAGES, limit))
 }
 
 #[test]

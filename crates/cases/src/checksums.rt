@@ -1,5 +1,6 @@
 // Published values of CRC-32.
 use checksum::{crc32, is_sealed, seal};
+use device::PAGE_SIZE;
 
 #[test]
 fn published_values(rt: HostRuntime) {
@@ -19,11 +20,11 @@ fn published_values(rt: HostRuntime) {
 // A page is sealed by its checksum, whatever stood in its place, and no longer when one byte is turned.
 #[test]
 fn one_byte_breaks_the_seal(rt: HostRuntime) {
-    let mut page = [0x5a; 512];
+    let mut page = [0x5a; PAGE_SIZE];
     assert!(rt; !is_sealed(&page));
     seal(&mut page);
     assert!(rt; is_sealed(&page));
-    for i in 0..512usize {
+    for i in 0..PAGE_SIZE {
         page[i] ^= 0x10;
         assert!(rt; !is_sealed(&page));
         page[i] ^= 0x10;

@@ -1,5 +1,6 @@
 use device::{Device, DeviceFault, Page, PowerCycle, Reader};
 use disks::{Image, ImageFault, WriteBehind, WriteThrough};
+use std::alloc::AllocError;
 use std::process::Abort;
 use std::test::Fail;
 
@@ -7,14 +8,7 @@ const OFF: Result<(), DeviceFault> = Err(DeviceFault::Off);
 
 const OUTSIDE: Result<(), DeviceFault> = Err(DeviceFault::Outside);
 
-// The buffer holds this byte and no other.
-fn check_filled(rt: &impl Abort, buffer: &Page, byte: u8) {
-    for b in buffer {
-        assert_eq!(rt; *b, byte);
-    }
-}
-
-// Makes one of the calls in turn: a write, a read, a sync.
+// Makes one of the calls in turn: a write, a read, a sync. A match, as closures would need a table of pointers.
 fn call<D: Device>(device: &mut D, turn: u64) -> Result<(), DeviceFault> {
     let mut buffer = [0; 512];
     match turn % 3 {
@@ -39,14 +33,14 @@ fn cut_at<D: PowerCycle>(rt: &impl Abort, device: &mut D, limit: u64, when: &str
             assert_eq!(rt; answer, OFF, "{when}");
             buffer = [9; 512];
             assert_eq!(rt; device.read(1, &mut buffer), OFF, "{when}");
-            check_filled(rt, &buffer, 0);
+            assert_eq!(rt; buffer, [0; 512], "{when}");
             assert_eq!(rt; device.sync(), OFF, "{when}");
         }
     }
 }
 
 // Around each limit, and again after each of two power returns in a row.
-fn cut_at_each<D: PowerCycle>(rt: &impl Abort, device: &mut D, limit: u64) {
+fn cut_and_returned<D: PowerCycle>(rt: &impl Abort, device: &mut D, limit: u64) {
     cut_at(rt, device, limit, "made");
     device.power_return();
     cut_at(rt, device, limit, "power returned");
@@ -55,32 +49,36 @@ fn cut_at_each<D: PowerCycle>(rt: &impl Abort, device: &mut D, limit: u64) {
     cut_at(rt, device, limit, "power returned twice");
 }
 
-#[test]
-fn write_through_is_cut_at_each_limit(rt: HostRuntime) -> Result<(), Fail> {
+fn cut_at_each_limit<D: PowerCycle + Drop, F: Fn(u64) -> Result<D, AllocError>>(
+    rt: &impl Abort,
+    make: F,
+) -> Result<(), Fail>
+    requires { F.IsAlwaysCallable make }
+{
     for limit in 0..13u64 {
-        let mut device = WriteThrough::new(rt.alloc(), 3, limit)?;
-        cut_at_each(&rt, &mut device, limit);
+        cut_and_returned(rt, &mut make(limit)?, limit);
     }
     Ok(())
+}
+
+#[test]
+fn write_through_is_cut_at_each_limit(rt: HostRuntime) -> Result<(), Fail> {
+    cut_at_each_limit(&rt, |limit| WriteThrough::new(rt.alloc(), 3, limit))
 }
 
 #[test]
 fn write_behind_is_cut_at_each_limit(rt: HostRuntime) -> Result<(), Fail> {
-    for limit in 0..13u64 {
-        let mut device = WriteBehind::new(rt.alloc(), 3, limit)?;
-        cut_at_each(&rt, &mut device, limit);
-    }
-    Ok(())
+    cut_at_each_limit(&rt, |limit| WriteBehind::new(rt.alloc(), 3, limit))
 }
 
 // Page 1 after a write of sevens, a sync, a write of eights, and a power return.
-fn returned<D: PowerCycle>(rt: &impl Abort, device: &mut D) -> Result<Page, Fail> {
+fn returned<D: PowerCycle + Drop>(rt: &impl Abort, mut device: D) -> Result<Page, Fail> {
     let mut buffer = [0; 512];
     device.write(1, &[7; 512])?;
     device.sync()?;
     device.write(1, &[8; 512])?;
     device.read(1, &mut buffer)?;
-    check_filled(rt, &buffer, 8);
+    assert_eq!(rt; buffer, [8; 512]);
     device.power_return();
     device.read(1, &mut buffer)?;
     Ok(buffer)
@@ -88,15 +86,15 @@ fn returned<D: PowerCycle>(rt: &impl Abort, device: &mut D) -> Result<Page, Fail
 
 #[test]
 fn write_through_keeps_what_was_written(rt: HostRuntime) -> Result<(), Fail> {
-    let mut device = WriteThrough::new(rt.alloc(), 2, 0)?;
-    check_filled(&rt, &returned(&rt, &mut device)?, 8);
+    let device = WriteThrough::new(rt.alloc(), 2, 0)?;
+    assert_eq!(rt; returned(&rt, device)?, [8; 512]);
     Ok(())
 }
 
 #[test]
 fn write_behind_keeps_what_was_synced(rt: HostRuntime) -> Result<(), Fail> {
-    let mut device = WriteBehind::new(rt.alloc(), 2, 0)?;
-    check_filled(&rt, &returned(&rt, &mut device)?, 7);
+    let device = WriteBehind::new(rt.alloc(), 2, 0)?;
+    assert_eq!(rt; returned(&rt, device)?, [7; 512]);
     Ok(())
 }
 
@@ -107,9 +105,9 @@ fn read_after_a_refused_read(rt: HostRuntime) -> Result<(), Fail> {
     let mut buffer = [9; 512];
     device.write(0, &[7; 512])?;
     assert_eq!(rt; device.read(2, &mut buffer), OUTSIDE);
-    check_filled(&rt, &buffer, 0);
+    assert_eq!(rt; buffer, [0; 512]);
     device.read(0, &mut buffer)?;
-    check_filled(&rt, &buffer, 7);
+    assert_eq!(rt; buffer, [7; 512]);
     Ok(())
 }
 
@@ -148,20 +146,18 @@ fn image_reads_its_pages(rt: HostRuntime) -> Result<(), Fail> {
     let mut buffer = [9; 512];
     assert_eq!(rt; image.pages(), 2);
     image.read(1, &mut buffer)?;
-    check_filled(&rt, &buffer, 2);
+    assert_eq!(rt; buffer, [2; 512]);
     assert_eq!(rt; image.read(2, &mut buffer), OUTSIDE);
-    check_filled(&rt, &buffer, 0);
+    assert_eq!(rt; buffer, [0; 512]);
     image.read(0, &mut buffer)?;
-    check_filled(&rt, &buffer, 1);
+    assert_eq!(rt; buffer, [1; 512]);
     Ok(())
 }
 
 #[test]
 fn image_has_whole_pages(rt: HostRuntime) -> Result<(), Fail> {
-    match Image::new(vec![in rt.alloc(); 1; 513]?) {
-        Ok(_) => return Err(Fail::new("a page of one byte")),
-        Err(fault) => assert_eq!(rt; fault, ImageFault::PartialPage),
-    }
+    let partial = vec![in rt.alloc(); 1; 513]?;
+    assert_eq!(rt; Image::new(partial).err(), Some(ImageFault::PartialPage));
     assert_eq!(rt; Image::new(Vec::new(rt.alloc()))?.pages(), 0);
     Ok(())
 }

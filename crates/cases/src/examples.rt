@@ -4,10 +4,9 @@ ghost use Rattle.cases.specs.Examples.{Examples};
 use meta::laws::{seven_is_not_for_page_zero, six_and_seven_gives_seven};
 
 // All examples hold, as one list.
-pub fn examples_hold() -> u8
+pub fn examples_hold()
     ensures { Examples }
 {
     six_and_seven_gives_seven();
     seven_is_not_for_page_zero();
-    0
 }

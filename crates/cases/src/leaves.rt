@@ -1,19 +1,9 @@
 // Leaves; the checksums of whole pages were computed by another program.
+use crate::grown::{one, two};
 use crate::texts::is;
-use device::Page;
-use page::{Cause, Grown, LeafPage};
+use device::PAGE_SIZE;
+use page::{Cause, LeafPage};
 use std::test::Fail;
-
-// The leaf with one pair more, which has to fit.
-fn put(leaf: &LeafPage, key: &[u8], value: &[u8]) -> Result<LeafPage, Fail> {
-    let Some(grown) = leaf.put(key, value) else {
-        return Err(Fail::new("not put"));
-    };
-    match grown {
-        Grown::One(leaf) => Ok(leaf),
-        Grown::Two(_, _, _) => Err(Fail::new("cut")),
-    }
-}
 
 #[test]
 fn empty_leaf(rt: HostRuntime) {
@@ -28,7 +18,7 @@ fn empty_leaf(rt: HostRuntime) {
 
 #[test]
 fn one_pair(rt: HostRuntime) -> Result<(), Fail> {
-    let leaf = put(&LeafPage::empty(), b"k", b"v")?;
+    let leaf = one(LeafPage::empty().put(b"k", b"v"))?;
     let bytes = leaf.bytes();
     assert_eq!(rt; bytes[16], 0xfc);
     assert_eq!(rt; bytes[17], 0x01);
@@ -57,42 +47,28 @@ fn lengths_of_keys_and_values(rt: HostRuntime) {
 // Three cells of 196: the first alone goes left.
 #[test]
 fn three_large_cells_are_cut_after_the_first(rt: HostRuntime) -> Result<(), Fail> {
-    let leaf = put(&LeafPage::empty(), &[1; 64], &[0; 128])?;
-    let leaf = put(&leaf, &[2; 64], &[0; 128])?;
-    let Some(grown) = leaf.put(&[3; 64], &[0; 128]) else {
-        return Err(Fail::new("not put"));
-    };
-    match grown {
-        Grown::One(_) => Err(Fail::new("not cut")),
-        Grown::Two(left, separator, right) => {
-            assert_eq!(rt; left.len(), 1);
-            assert_eq!(rt; right.len(), 2);
-            assert!(rt; separator.as_slice() == [2].as_slice());
-            Ok(())
-        }
-    }
-}
-
-fn cause_of(bytes: &Page) -> Option<Cause> {
-    match LeafPage::read(bytes) {
-        Ok(_) => None,
-        Err(cause) => Some(cause),
-    }
+    let leaf = one(LeafPage::empty().put(&[1; 64], &[0; 128]))?;
+    let leaf = one(leaf.put(&[2; 64], &[0; 128]))?;
+    let (left, separator, right) = two(leaf.put(&[3; 64], &[0; 128]))?;
+    assert_eq!(rt; left.len(), 1);
+    assert_eq!(rt; right.len(), 2);
+    assert!(rt; separator.as_slice() == [2].as_slice());
+    Ok(())
 }
 
 // A leaf reads back, and no byte of it can be turned without notice.
 #[test]
 fn damage_is_noticed(rt: HostRuntime) -> Result<(), Fail> {
-    let leaf = put(&LeafPage::empty(), b"cab", b"1290")?;
-    let leaf = put(&leaf, b"taxi", b"18.40")?;
+    let leaf = one(LeafPage::empty().put(b"cab", b"1290"))?;
+    let leaf = one(leaf.put(b"taxi", b"18.40"))?;
     let mut bytes = *leaf.bytes();
-    assert_eq!(rt; cause_of(&bytes), None);
-    for i in 0..512usize {
+    assert_eq!(rt; LeafPage::read(&bytes).err(), None);
+    for i in 0..PAGE_SIZE {
         bytes[i] ^= 1;
-        assert_eq!(rt; cause_of(&bytes), Some(Cause::Checksum));
+        assert_eq!(rt; LeafPage::read(&bytes).err(), Some(Cause::Checksum));
         checksum::seal(&mut bytes);
-        if i < 12 || i > 15 {
-            assert!(rt; cause_of(&bytes) != Some(Cause::Checksum));
+        if !(12..16).contains(&i) {
+            assert!(rt; LeafPage::read(&bytes).err() != Some(Cause::Checksum));
         }
         bytes = *leaf.bytes();
     }
@@ -101,53 +77,38 @@ fn damage_is_noticed(rt: HostRuntime) -> Result<(), Fail> {
 
 #[test]
 fn removed_pairs_are_gone(rt: HostRuntime) -> Result<(), Fail> {
-    let leaf = put(&LeafPage::empty(), b"cab", b"1290")?;
-    let both = put(&leaf, b"taxi", b"18.40")?;
-    match both.remove(b"taxi") {
-        Some(one) => assert!(rt; *one.bytes() == *leaf.bytes()),
-        None => return Err(Fail::new("not removed")),
-    }
+    let leaf = one(LeafPage::empty().put(b"cab", b"1290"))?;
+    let both = one(leaf.put(b"taxi", b"18.40"))?;
+    let one = both.remove(b"taxi").ok_or("not removed")?;
+    assert!(rt; one.bytes() == leaf.bytes());
     assert!(rt; both.remove(b"tax").is_none());
     Ok(())
 }
 
 // A leaf that costs 196 for one pair, and 68 and the value for the other.
 fn two_pairs(value: &[u8]) -> Result<LeafPage, Fail> {
-    let leaf = put(&LeafPage::empty(), &[2; 64], &[0; 128])?;
-    put(&leaf, &[3; 64], value)
+    let leaf = one(LeafPage::empty().put(&[2; 64], &[0; 128]))?;
+    one(leaf.put(&[3; 64], value))
 }
 
 // 123 and 373 make one leaf; 123 and 374 are cut.
 #[test]
 fn joined_leaves_fit_up_to_496(rt: HostRuntime) -> Result<(), Fail> {
-    let light = put(&LeafPage::empty(), &[1], &[0; 118])?;
+    let light = one(LeafPage::empty().put(&[1], &[0; 118]))?;
     assert_eq!(rt; light.cost(), 123);
     let right = two_pairs(&[0; 109])?;
     assert_eq!(rt; right.cost(), 373);
-    let Some(grown) = light.join(&right) else {
-        return Err(Fail::new("not joined"));
-    };
-    match grown {
-        Grown::One(leaf) => assert_eq!(rt; leaf.len(), 3),
-        Grown::Two(_, _, _) => return Err(Fail::new("cut")),
-    }
+    assert_eq!(rt; one(light.join(&right))?.len(), 3);
     let right = two_pairs(&[0; 110])?;
-    let Some(grown) = light.join(&right) else {
-        return Err(Fail::new("not joined"));
-    };
-    match grown {
-        Grown::One(_) => Err(Fail::new("not cut")),
-        Grown::Two(left, _, right) => {
-            assert_eq!(rt; left.len(), 2);
-            assert_eq!(rt; right.len(), 1);
-            Ok(())
-        }
-    }
+    let (left, _, right) = two(light.join(&right))?;
+    assert_eq!(rt; left.len(), 2);
+    assert_eq!(rt; right.len(), 1);
+    Ok(())
 }
 
 #[test]
 fn leaves_out_of_order_or_filled_are_not_joined(rt: HostRuntime) -> Result<(), Fail> {
-    let light = put(&LeafPage::empty(), b"k", b"v")?;
+    let light = one(LeafPage::empty().put(b"k", b"v"))?;
     let filled = two_pairs(&[0; 110])?;
     assert!(rt; light.join(&light).is_none());
     assert!(rt; filled.join(&filled).is_none());
@@ -157,8 +118,8 @@ fn leaves_out_of_order_or_filled_are_not_joined(rt: HostRuntime) -> Result<(), F
 
 #[test]
 fn keys_and_values_by_place(rt: HostRuntime) -> Result<(), Fail> {
-    let leaf = put(&LeafPage::empty(), b"taxi", b"18.40")?;
-    let leaf = put(&leaf, b"cab", b"")?;
+    let leaf = one(LeafPage::empty().put(b"taxi", b"18.40"))?;
+    let leaf = one(leaf.put(b"cab", b""))?;
     assert!(rt; is(leaf.key(0), b"cab"));
     assert!(rt; is(leaf.value(0), b""));
     assert!(rt; is(leaf.key(1), b"taxi"));

@@ -11,6 +11,8 @@ mod checksums;
 mod devices;
 pub mod examples;
 #[cfg(test)]
+mod grown;
+#[cfg(test)]
 mod leaves;
 #[cfg(test)]
 mod metas;

@@ -1,7 +1,5 @@
-// Whether there is a text, and it is this one.
+// Whether there is a text, and it is this one. Two options of borrowed bytes can't be compared by `==`: the borrow
+// check has no proof yet where their lifetimes differ.
 pub(crate) fn is(found: Option<&[u8]>, text: &[u8]) -> bool {
-    match found {
-        Some(bytes) => bytes == text,
-        None => false,
-    }
+    found.is_some_and(|bytes| bytes == text)
 }
