@@ -5,16 +5,12 @@ use Rattle.std.proofs.lemmas.List.{take-append-drop, take-take, length-append}
 use Rattle.std.proofs.lemmas.Slice.{between_is}
 use Rattle.std.proofs.lemmas.List.Edits.{length-between}
 use Rattle.page.specs.Layout.{cost, bodies}
-use Rattle.page.proofs.Pages.{top, top_low, cost_take, bodies_append, cost_append, cost_none, cost_split}
+use Rattle.page.proofs.Pages.{top, top_low, cost_take, bodies_append, cost_none, cost_split}
 
 -- the front of a list up to j is that up to i, and then what lies between
 split_take : (xs : List (List ℕ)) (i j : ℕ) → i ≤ j → take j xs ≡ take i xs ++ between i j xs
 split_take xs i j h =
     sym (take-append-drop i (take j xs)) ∙ (ap (λ r. r ++ drop i (take j xs)) (take-take i j xs h) ∙ ap (λ r. take i xs ++ r) (sym (between_is xs i j)))
-
--- the cost after a copy, and after an append
-pub cost_copied : (s xs : List (List ℕ)) {t : List (List ℕ)} → t ≡ s ++ xs → cost t ≡ cost s + cost xs
-cost_copied s xs {t} e = ap cost e ∙ cost_append s xs
 
 pub cost_started : {s : List (List ℕ)} → s ≡ [] → cost s ≡ 0
 cost_started e = ap cost e ∙ cost_none

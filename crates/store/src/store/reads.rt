@@ -62,11 +62,7 @@ impl<D: Device> Store<D> {
         ensures cleared { OnErr result (buffer.new ≡ zeros) }
         ensures model { ReadsOut D.Reader self.old self.new (is_key key.now) (pair_with key.now) result buffer.new }
     {
-        self.look_up(
-            is_key(key),
-            |device, tree| tree.find(device, key),
-            buffer,
-        )
+        self.look_up(is_key(key), |device, tree| tree.find(device, key), buffer)
     }
 
     // The place of the first pair with a greater key. The key may be empty.
