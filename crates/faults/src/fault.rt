@@ -70,7 +70,7 @@ impl StoreFault {
         }
     }
 
-    // The words for what is refused, the page left out.
+    // The words for what is refused, the page left out, for a caller that has no formatter.
     pub fn as_str(self) -> &'static str
         ensures { result.now ≡ plain_words self }
     {

@@ -16,6 +16,7 @@ pub struct CellPage<C: Cell> {
     ghost sound: { sound C.rules bytes ≡ true },
 }
 
+// Written out: of a struct with a ghost field and a parameter the build derives no `Clone`.
 impl<C: Cell> Clone for CellPage<C> {
     fn clone(&self) -> Result<Self, AllocError> {
         Ok(*self)

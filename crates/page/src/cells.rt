@@ -18,6 +18,7 @@ pub(crate) struct Cells<'a, C: Cell> {
     ghost goods: { every C.rules.good (cells_of page.now) ≡ true },
 }
 
+// Written out: of a struct with a ghost field and a parameter the build derives no `Clone`.
 impl<C: Cell> Clone for Cells<'_, C> {
     fn clone(&self) -> Result<Self, AllocError> {
         Ok(*self)

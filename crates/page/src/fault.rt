@@ -27,7 +27,7 @@ pub enum Cause {
 }
 
 impl Cause {
-    // Its place in the order in which a walk looks for causes.
+    // Its place in the order in which a walk looks for causes; a conversion would not say which number it gives.
     pub fn number(self) -> u8
         ensures { result ≡ cause_number self }
     {
@@ -43,6 +43,7 @@ impl Cause {
         }
     }
 
+    // Its words, for a caller that has no formatter.
     pub fn as_str(self) -> &'static str
         ensures { result.now ≡ cause_words self }
     {

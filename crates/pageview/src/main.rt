@@ -9,7 +9,7 @@ use page::{BranchPage, Grown, LeafPage};
 mod damage;
 mod tables;
 
-// The leaf with one pair more, which has to fit.
+// The leaf with one pair more, which has to fit. (A match of its own, as that below: their messages differ.)
 fn put(leaf: &LeafPage, key: &[u8], value: &[u8]) -> anyhow::Result<LeafPage> {
     match leaf.put(key, value).context("no such pair can be put")? {
         Grown::One(leaf) => Ok(leaf),

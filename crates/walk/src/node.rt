@@ -14,10 +14,7 @@ use cuts::key_less;
 use device::Reader;
 use page::{BranchPage, Cause, Damage, LeafPage, PageFault};
 
-// What the cells of a page other than the root cost at least: a quarter of what a page holds.
-const QUARTER: usize = 124;
-
-// A kind of page of the tree.
+// A kind of page of the tree: what the walk asks of it in words of pairs for the one kind, and of children for the other.
 pub(crate) trait Node: Copy {
     ghost rules: { Rules };
 
@@ -60,7 +57,7 @@ impl Node for LeafPage {
     }
 
     fn is_filled(&self, is_root: bool) -> bool {
-        is_root || self.cost() >= QUARTER
+        is_root || !self.is_light()
     }
 }
 
@@ -86,7 +83,7 @@ impl Node for BranchPage {
         if is_root {
             self.len() > 0
         } else {
-            self.cost() >= QUARTER
+            !self.is_light()
         }
     }
 }

@@ -71,10 +71,17 @@ impl<C: Cell> CellPage<C> {
         cells.cost(0, cells.len())
     }
 
+    // Whether it is underfull: its cells cost less than a quarter of what a page holds.
+    pub fn is_light(&self) -> bool
+        ensures { result ≡ nat_lt (total C.item_cost (map C.item (cells_of self.now.bytes))) quarter }
+    {
+        self.cost() < QUARTER
+    }
+
     // Whether one of two pages is underfull, as one of two that are joined has to be.
     pub(crate) fn one_is_light(&self, other: &Self) -> bool
         ensures { result ≡ (nat_lt (total C.item_cost (map C.item (cells_of self.now.bytes))) quarter || nat_lt (total C.item_cost (map C.item (cells_of other.now.bytes))) quarter) }
     {
-        self.cost() < QUARTER || other.cost() < QUARTER
+        self.is_light() || other.is_light()
     }
 }

@@ -16,7 +16,8 @@ pub(crate) fn value_of(cell: &[u8]) -> &[u8]
 }
 
 impl CellPage<LeafCell> {
-    // The key of pair i, if there is one.
+    // The key of pair i, if there is one. (Not one with the separator of a branch: what both do is `Cells::key`, and their
+    // contracts speak of pairs and of children.)
     pub fn key(&self, i: usize) -> Option<&[u8]>
         ensures { option_map (λ x. x.now) result ≡ key_of_place i (leaf_pairs self.now) }
     {
