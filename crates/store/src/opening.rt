@@ -4,15 +4,13 @@ ghost use Rattle.store.specs.Opening.{IsQuiet, Reopens};
 
 use device::Device;
 use faults::StoreFault;
-use walk::{Recovered, has_room, recover};
+use walk::{Recovered, check_room, recover};
 
 // Reads a device anew: what was written is made durable first, so that what is found stands. It writes nothing.
 pub(crate) fn reopen<D: Device>(device: &mut D) -> Result<Recovered, StoreFault>
     ensures { ActsOn D.Reader device.old device.new (λ m n t. AllByRecursion IsQuiet t × Reopens m n result) }
 {
-    if !has_room(device.pages()) {
-        return Err(StoreFault::PageCount);
-    }
+    check_room(device.pages())?;
     device.sync()?;
     recover(device)
 }

@@ -2,4 +2,5 @@ pub mod Slots
 pub mod Ends
 pub mod Steps
 pub mod Metas
+pub mod Rooms
 pub mod Trees

@@ -23,6 +23,9 @@ use Rattle.walk.specs.declared.marks.Marks.{Marks}
 abbrev pub fits_pages : ℕ → Bool
 fits_pages size = nat_le 16 size && nat_le size 1024
 
+abbrev pub room_of : ℕ → Result Unit StoreFault
+room_of size = cond (fits_pages size) (Ok tt) (Err PageCount)
+
 -- In these, m gives the bytes of each page, of which there are `size`.
 
 -- of the meta pages that pass their test, the one with the larger commit number

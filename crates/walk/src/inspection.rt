@@ -6,7 +6,7 @@ use meta::Meta;
 
 mod calls;
 
-pub use calls::{check, has_room, recover};
+pub use calls::{check, check_room, has_room, recover};
 
 // What was found on a device: its newest meta, and marks on the pages of its tree.
 #[derive(Clone, Copy)]

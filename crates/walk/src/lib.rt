@@ -7,5 +7,5 @@ mod marks;
 mod node;
 mod spot;
 
-pub use inspection::{Recovered, Summary, check, has_room, recover};
+pub use inspection::{Recovered, Summary, check, check_room, has_room, recover};
 pub use marks::Marks;

@@ -11,7 +11,7 @@ use crate::state::{Held, State};
 use crate::store::Store;
 use device::{Device, PowerCycle, Reader};
 use faults::StoreFault;
-use walk::has_room;
+use walk::check_room;
 
 impl<D: Device> Store<D> {
     // Formats the device: an empty map, as commit 0. The store is then shut.
@@ -19,9 +19,7 @@ impl<D: Device> Store<D> {
         ensures { StoreActs D.Reader self.old self.new (λ s z t. FormatsTo s z result) }
     {
         self.state.outside_transaction()?;
-        if !has_room(self.device.pages()) {
-            return Err(StoreFault::PageCount);
-        }
+        check_room(self.device.pages())?;
         self.state = State::Shut;
         lay_out(&mut self.device)?;
         Ok(())

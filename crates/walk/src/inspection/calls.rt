@@ -1,7 +1,7 @@
 ghost use Rattle.std.specs.Prelude.{◌≡◌, ◌≤◌, IfSome, IfOk};
 ghost use Rattle.device.specs.Looking.{Looks};
 ghost use Rattle.meta.specs.Laws.{Fits};
-ghost use Rattle.walk.specs.Checking.{Newest, Rooted, WalksTree, Recovers, fits_pages, found_on, summed};
+ghost use Rattle.walk.specs.Checking.{Newest, Rooted, WalksTree, Recovers, fits_pages, room_of, found_on, summed};
 
 use crate::descent::Walk;
 use crate::inspection::{Recovered, Summary};
@@ -20,6 +20,16 @@ pub fn has_room(pages: u32) -> bool
     ensures { result ≡ fits_pages pages }
 {
     (FEWEST_PAGES..=MOST_PAGES).contains(&pages)
+}
+
+// Refuses a device of so many pages, if it may not have them.
+pub fn check_room(pages: u32) -> Result<(), StoreFault>
+    ensures { result ≡ room_of pages }
+{
+    if !has_room(pages) {
+        return Err(StoreFault::PageCount);
+    }
+    Ok(())
 }
 
 // Of the meta pages that pass their test, the one with the larger commit number.
@@ -68,9 +78,7 @@ pub fn recover<R: Reader>(reader: &mut R) -> Result<Recovered, StoreFault>
     ensures found { Looks (R.Reader.past reader.old) (R.Reader.medium reader.old) (R.Reader.past reader.new) (R.Reader.medium reader.new) (λ t. Recovers (R.Reader.medium reader.old) (R.Reader.medium reader.new).on t result) }
 {
     let size = reader.pages();
-    if !has_room(size) {
-        return Err(StoreFault::PageCount);
-    }
+    check_room(size)?;
     let Some(meta) = newest(reader, size)? else {
         return Err(StoreFault::NoMeta);
     };
