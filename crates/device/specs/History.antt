@@ -55,3 +55,7 @@ Allowed m power_returned n = Returns m n
 -- be its own after it: whichever it was, the event is one that the rules allow, and is now its newest step.
 pub record Happens (P : History → Type 0) (m : Medium) (e : Event) (Q : History → Type 0) (n : Medium) : Type 0 where
   pub follows : (h : History) → P h → Allowed m e n × Q (step m e n ∷ h)
+
+-- the same of a device that was d and is d', where past and medium say what a device means
+abbrev pub HappensOn : {D : Type 0} → (past : D → History → Type 0) → (medium : D → Medium) → D → Event → D → Type 0
+HappensOn past medium d e d' = Happens (past d) (medium d) e (past d') (medium d')

@@ -8,7 +8,7 @@
 
 ghost use Rattle.std.specs.Prelude.{◌≡◌};
 ghost use Rattle.device.specs.Medium.{Medium, Whole};
-ghost use Rattle.device.specs.History.{History, Happens, did_read, did_write, did_sync, power_returned};
+ghost use Rattle.device.specs.History.{History, HappensOn, did_read, did_write, did_sync, power_returned};
 
 mod fault;
 
@@ -31,21 +31,21 @@ pub trait Reader {
 
     // Copies the page into the buffer. A refused read leaves zeros there.
     fn read(&mut self, page: u32, buffer: &mut Page) -> Result<(), DeviceFault>
-        ensures { Happens (past self.old) (medium self.old) (did_read page buffer.new result) (past self.new) (medium self.new) };
+        ensures { HappensOn past medium self.old (did_read page buffer.new result) self.new };
 
     ghost whole: { (d : Self) → Whole (medium d) };
 }
 
 pub trait Device: Reader {
     fn write(&mut self, page: u32, bytes: &Page) -> Result<(), DeviceFault>
-        ensures { Happens (Self.Reader.past self.old) (Self.Reader.medium self.old) (did_write page bytes.now result) (Self.Reader.past self.new) (Self.Reader.medium self.new) };
+        ensures { HappensOn Self.Reader.past Self.Reader.medium self.old (did_write page bytes.now result) self.new };
 
     fn sync(&mut self) -> Result<(), DeviceFault>
-        ensures { Happens (Self.Reader.past self.old) (Self.Reader.medium self.old) (did_sync result) (Self.Reader.past self.new) (Self.Reader.medium self.new) };
+        ensures { HappensOn Self.Reader.past Self.Reader.medium self.old (did_sync result) self.new };
 }
 
 pub trait PowerCycle: Device {
     // Power returns. It may have failed before or not.
     fn power_return(&mut self)
-        ensures { Happens (Self.Reader.past self.old) (Self.Reader.medium self.old) power_returned (Self.Reader.past self.new) (Self.Reader.medium self.new) };
+        ensures { HappensOn Self.Reader.past Self.Reader.medium self.old power_returned self.new };
 }
