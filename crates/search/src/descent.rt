@@ -4,6 +4,7 @@
 // Two functions, and not one for both: the way to a key ends under one child, the way to the next key may go on under
 // the next child, and a text that asks at each step which of the two it is would be longer than they are.
 ghost use Rattle.std.specs.Prelude.{◌≡◌, ◌≤◌, length};
+ghost use Rattle.device.specs.Looking.{On};
 ghost use Rattle.tree.specs.Maps.{first_above};
 ghost use Rattle.page.specs.Views.{leaf_pairs, branch_node};
 ghost use Rattle.search.specs.Finding.{pair_with};
@@ -53,7 +54,7 @@ impl Tree {
         reader: &mut R,
         key: &[u8],
     ) -> Result<Option<Place>, PageFault>
-        ensures { Descends (R.Reader.past reader.old) (R.Reader.medium reader.old) (R.Reader.past reader.new) (R.Reader.medium reader.new) self (find_pair key.now) result }
+        ensures { On R.Reader reader.old reader.new (λ P m Q n. Descends P m Q n self (find_pair key.now) result) }
     {
         if self.height == 0 {
             let leaf = LeafPage::load(reader, self.root)?;
@@ -71,7 +72,7 @@ impl Tree {
         reader: &mut R,
         key: &[u8],
     ) -> Result<Option<Place>, PageFault>
-        ensures { Descends (R.Reader.past reader.old) (R.Reader.medium reader.old) (R.Reader.past reader.new) (R.Reader.medium reader.new) self (find_next key.now) result }
+        ensures { On R.Reader reader.old reader.new (λ P m Q n. Descends P m Q n self (find_next key.now) result) }
     {
         if self.height == 0 {
             let leaf = LeafPage::load(reader, self.root)?;

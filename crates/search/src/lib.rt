@@ -4,6 +4,7 @@
 // it is loaded; on pages that hold no such tree, a search is safe and ends.
 #![tactic(auto)]
 
+ghost use Rattle.device.specs.Looking.{On};
 ghost use Rattle.tree.specs.Maps.{first_above};
 ghost use Rattle.search.specs.Finding.{Searches, pair_with};
 
@@ -32,14 +33,14 @@ pub struct Place {
 impl Tree {
     // The place of the pair with this key.
     pub fn find<R: Reader>(self, reader: &mut R, key: &[u8]) -> Result<Option<Place>, PageFault>
-        ensures { Searches (R.Reader.past reader.old) (R.Reader.medium reader.old) (R.Reader.past reader.new) (R.Reader.medium reader.new) self (pair_with key.now) result }
+        ensures { On R.Reader reader.old reader.new (λ P m Q n. Searches P m Q n self (pair_with key.now) result) }
     {
         self.find_down(reader, key)
     }
 
     // The place of the first pair with a greater key. The key may be empty.
     pub fn after<R: Reader>(self, reader: &mut R, key: &[u8]) -> Result<Option<Place>, PageFault>
-        ensures { Searches (R.Reader.past reader.old) (R.Reader.medium reader.old) (R.Reader.past reader.new) (R.Reader.medium reader.new) self (first_above key.now) result }
+        ensures { On R.Reader reader.old reader.new (λ P m Q n. Searches P m Q n self (first_above key.now) result) }
     {
         self.after_down(reader, key)
     }

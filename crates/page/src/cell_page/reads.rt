@@ -1,4 +1,5 @@
 ghost use Rattle.std.specs.Prelude.{◌≡◌, true, ◌||◌, map, length, nat_lt};
+ghost use Rattle.device.specs.Looking.{On};
 ghost use Rattle.cuts.specs.Cuts.{total};
 ghost use Rattle.cuts.specs.Sizes.{quarter};
 ghost use Rattle.page.specs.Layout.{cells_of};
@@ -33,7 +34,7 @@ impl<C: Cell> CellPage<C> {
 
     // The page of this kind on a page of the reader, tested before it is used.
     pub fn load<R: Reader>(reader: &mut R, page: u32) -> Result<Self, PageFault>
-        ensures { Loads C.rules (λ p. p.bytes) (R.Reader.past reader.old) (R.Reader.medium reader.old) page result (R.Reader.past reader.new) (R.Reader.medium reader.new) }
+        ensures { On R.Reader reader.old reader.new (λ P m Q n. Loads C.rules (λ p. p.bytes) P m page result Q n) }
     {
         let mut buffer = [0; PAGE_SIZE];
         reader.read(page, &mut buffer)?;
