@@ -15,7 +15,6 @@ use Rattle.store.specs.Acting.{Acts}
 use Rattle.store.specs.Calls.{Commits}
 use Rattle.store.specs.Sealing.{page_for, Seals}
 use Rattle.store.specs.Snapshots.{snap}
-use Rattle.store.specs.States.{transaction_in}
 use Rattle.store.specs.Versions.{pages_held, Stands, Committed}
 use Rattle.store.specs.declared.state.State.{State}
 use Rattle.faults.specs.declared.fault.StoreFault.{StoreFault}
@@ -51,11 +50,6 @@ module _ (m m₁ m₂ n : Medium) (x w : Meta) (b c : List Bool) (held : Committ
       page : n.bytes (page_for w) ≡ meta_page w
       page = last.2.same_bytes (page_for w) ∙ wrote.2
 
-transaction_is : (s : State) (x : Transaction) → Ok x ≡ transaction_in s → s ≡ InTransaction x
-transaction_is Shut x e = cc
-transaction_is (Idle y) x e = cc
-transaction_is (InTransaction y) x e = cc
-
 -- power failed
 pub cut_off : (m n : Medium) (w : Meta) (t : History) (d : DeviceFault) → fits_pages m.size ≡ true → Seals w m n t (Err d) → (d ≡ Off) × (n.on ≡ false)
 cut_off m n w t Outside r (inl s) = absurd s.0
@@ -70,12 +64,12 @@ module _ (P : History → Type 0) (m : Medium) (Q : History → Type 0) (n : Med
   abbrev pub CommitsFrom : (s z : State) (b c : Held) → Result ℕ StoreFault → Type 0
   CommitsFrom s z b c a = Acts P m Q n (λ t. Commits (snap m s b) (snap n z c) t a)
 
-  pub refused_from : (s : State) (x : Transaction) (b : Held) (d : DeviceFault) → Ok x ≡ transaction_in s → Acts P m Q n (λ t. Seals x.working m n t (Err d)) → CommitsFrom s Shut b b (Err (from_device d))
-  refused_from s x b d e a = subst (λ v. CommitsFrom v Shut b b (Err (from_device d))) (sym (transaction_is s x e))
+  pub refused_from : (s : State) (x : Transaction) (b : Held) (d : DeviceFault) → s ≡ InTransaction x → Acts P m Q n (λ t. Seals x.working m n t (Err d)) → CommitsFrom s Shut b b (Err (from_device d))
+  refused_from s x b d e a = subst (λ v. CommitsFrom v Shut b b (Err (from_device d))) (sym e)
       (acts_weaker _ _ a (λ t _ i. ((d, refl, i), λ h. let o = cut_off m n x.working t d h.0.room i in record { answers = rw (o.0, o.1); becomes = rw o.1; sound = tt })))
 
-  pub done_from : (s : State) (x : Transaction) (b c : Held) → Ok x ≡ transaction_in s → c.committed ≡ b.working → Acts P m Q n (λ t. Seals x.working m n t (Ok tt)) → CommitsFrom s (Idle x.working) b c (Ok x.working.commit)
-  done_from s x b c e f a = subst (λ v. CommitsFrom v (Idle x.working) b c (Ok x.working.commit)) (sym (transaction_is s x e))
+  pub done_from : (s : State) (x : Transaction) (b c : Held) → s ≡ InTransaction x → c.committed ≡ b.working → Acts P m Q n (λ t. Seals x.working m n t (Ok tt)) → CommitsFrom s (Idle x.working) b c (Ok x.working.commit)
+  done_from s x b c e f a = subst (λ v. CommitsFrom v (Idle x.working) b c (Ok x.working.commit)) (sym e)
       (acts_weaker _ _ a (λ t _ i. (
         i,
         λ h.

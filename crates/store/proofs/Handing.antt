@@ -1,5 +1,5 @@
 -- What get and after hand out, by what their search found.
-use Rattle.std.proofs.Common.{◌≡◌, ℕ, ◌<◌, Bool, true, false, List, Some, None, Ok, Err, Option, Result, sym, refl, ap, ◌∙◌, subst}
+use Rattle.std.proofs.Common.{◌≡◌, ℕ, ◌<◌, Bool, true, false, List, Some, None, Ok, Err, Option, Result, sym, refl, ap, subst}
 use Rattle.std.specs.Result.{result_ok}
 use Rattle.std.proofs.ByRecursion.{All-weaker}
 use Rattle.device.specs.Medium.{Medium, zeros}
@@ -73,20 +73,20 @@ module _ (m : Medium) (s : State) (b : Held) (want : List Pair → Option Pair) 
   length_refused x on fits e f h = let r = reads_at m.bytes s x on fits want e in record { hands = rw (r, f) (refl, refl); becomes = rw (r, f); sound = h }
 
   -- what the search says of the tree
-  module _ (n : Medium) (x : Meta) (height : ℕ) (fits : Bool) (r : Result (Option Place) PageFault) (e : version_of s ≡ Some x) (f : fits ≡ true) (g : height ≡ height_of x)
+  module _ (n : Medium) (x : Meta) (height : ℕ) (r : Result (Option Place) PageFault) (e : version_of s ≡ Some x) (g : height ≡ height_of x)
       (k : Keeps m n) (found : Finds m n.on (record { root = x.root; height = height }) want r) (h : Sound m s b) where
     searched : Answers m.bytes (height_of x) (tree_of m.bytes x) n.on (want (pairs_held m.bytes x)) r
     searched = let v = version_stands m s b x e h in found (height_of x) (tree_of m.bytes x) g (standing m x v.0 v.1) v.1.tree.sound
 
-    step_is : reads n.on fits want (model_of m.bytes s) ≡ looked n.on true (want (pairs_held m.bytes x)) (model_of m.bytes s)
-    step_is = reads_at m.bytes s x n.on fits want e ∙ ap (λ t. looked n.on t (want (pairs_held m.bytes x)) (model_of m.bytes s)) f
+    step_is : reads n.on true want (model_of m.bytes s) ≡ looked n.on true (want (pairs_held m.bytes x)) (model_of m.bytes s)
+    step_is = reads_at m.bytes s x n.on true want e
 
     fault_by : (q : PageFault) (on : Bool) (o : Option Pair) → Answers m.bytes (height_of x) (tree_of m.bytes x) on o (Err q) → (on ≡ false) × (q ≡ Device Off)
     fault_by q false o a = (refl, cc)
     fault_by q true None a = cc
     fault_by q true (Some p) a = let z = a.1 in cc
 
-    pub fault_handed : (q : PageFault) → r ≡ Err q → Hands (snap m s b) (snap n (shut_if_off r s) b) (reads n.on fits want) (Err (Page q)) zeros
+    pub fault_handed : (q : PageFault) → r ≡ Err q → Hands (snap m s b) (snap n (shut_if_off r s) b) (reads n.on true want) (Err (Page q)) zeros
     fault_handed q z =
         let a = fault_by q n.on _ (subst (λ v. Answers m.bytes (height_of x) (tree_of m.bytes x) n.on (want (pairs_held m.bytes x)) v) z searched) in
         record { hands = rw (step_is, a.0, a.1) (refl, refl); becomes = rw (step_is, z, a.0, a.1); sound = rw (z, a.1) tt }
@@ -96,7 +96,7 @@ module _ (m : Medium) (s : State) (b : Held) (want : List Pair → Option Pair) 
     none_by true None a = (refl, refl)
     none_by true (Some p) a = let z = a.1 in cc
 
-    pub none_handed : r ≡ Ok None → Hands (snap m s b) (snap n (shut_if_off r s) b) (reads n.on fits want) (Err Absent) zeros
+    pub none_handed : r ≡ Ok None → Hands (snap m s b) (snap n (shut_if_off r s) b) (reads n.on true want) (Err Absent) zeros
     none_handed z =
         let a = none_by n.on _ (subst (λ v. Answers m.bytes (height_of x) (tree_of m.bytes x) n.on (want (pairs_held m.bytes x)) v) z searched) in
         record { hands = rw (step_is, a.0, a.1) (refl, refl); becomes = rw (step_is, z, a.0, a.1) (model_keep m n s k); sound = rw z (sound_keep m n s b k h) }
@@ -107,7 +107,7 @@ module _ (m : Medium) (s : State) (b : Held) (want : List Pair → Option Pair) 
     some_by place true None a = cc
     some_by place true (Some p) a = let z = a.1 in let q : a.0 ≡ place = cc in (refl, (p, refl, subst (PlaceOf m.bytes (height_of x) (tree_of m.bytes x) p) q a.2))
 
-    pub some_handed : (place : Place) → r ≡ Ok (Some place) → Hands (snap m s b) (snap n (shut_if_off r s) b) (reads n.on fits want) (Ok place.cell) place.leaf.bytes
+    pub some_handed : (place : Place) → r ≡ Ok (Some place) → Hands (snap m s b) (snap n (shut_if_off r s) b) (reads n.on true want) (Ok place.cell) place.leaf.bytes
     some_handed place z =
         let a = some_by place n.on _ (subst (λ v. Answers m.bytes (height_of x) (tree_of m.bytes x) n.on (want (pairs_held m.bytes x)) v) z searched) in
         let p = a.1.2 in
@@ -128,23 +128,23 @@ looks_keep {P} {m} {Q} {n} F G l f = record {
 }
 
 -- the whole of a read, by its way out
-module _ (P : History → Type 0) (m : Medium) (s : State) (b : Held) (want : List Pair → Option Pair) (fits : Bool) where
-  abbrev pub Reading : (Q : History → Type 0) (n : Medium) (z : State) (a : Result ℕ StoreFault) (buffer : List ℕ) → Type 0
-  Reading Q n z a buffer = Looks P m Q n (λ _. HandsIfSound (snap m s b) (snap n z b) fits want a buffer)
+module _ (P : History → Type 0) (m : Medium) (s : State) (b : Held) (want : List Pair → Option Pair) where
+  abbrev pub Reading : (fits : Bool) (Q : History → Type 0) (n : Medium) (z : State) (a : Result ℕ StoreFault) (buffer : List ℕ) → Type 0
+  Reading fits Q n z a buffer = Looks P m Q n (λ _. HandsIfSound (snap m s b) (snap n z b) fits want a buffer)
 
-  pub at_shut : (f : StoreFault) → Err f ≡ version_in s → Reading P m s (Err f) zeros
-  at_shut f e = looks_none _ (λ _ _ h. shut_refused m s b want f m.on fits e h)
+  pub at_shut : (fits : Bool) (f : StoreFault) → Err f ≡ version_in s → Reading fits P m s (Err f) zeros
+  at_shut fits f e = looks_none _ (λ _ _ h. shut_refused m s b want f m.on fits e h)
 
-  pub at_length : (x : Meta) → Ok x ≡ version_in s → fits ≡ false → Reading P m s (Err KeyLength) zeros
-  at_length x e f = looks_none _ (λ _ _ h. length_refused m s b want x m.on fits (version_is s x e) f h)
+  pub at_length : (fits : Bool) (x : Meta) → Ok x ≡ version_in s → fits ≡ false → Reading fits P m s (Err KeyLength) zeros
+  at_length fits x e f = looks_none _ (λ _ _ h. length_refused m s b want x m.on fits (version_is s x e) f h)
 
-  module _ (Q : History → Type 0) (n : Medium) (x : Meta) (height : ℕ) (r : Result (Option Place) PageFault) (z : State) (e : Ok x ≡ version_in s) (f : fits ≡ true) (g : height ≡ height_of x)
+  module _ (Q : History → Type 0) (n : Medium) (x : Meta) (height : ℕ) (r : Result (Option Place) PageFault) (z : State) (e : Ok x ≡ version_in s) (g : height ≡ height_of x)
       (l : Searches P m Q n (record { root = x.root; height = height }) want r) (y : z ≡ shut_if_off r s) where
-    pub at_fault : (q : PageFault) → r ≡ Err q → Reading Q n z (Err (Page q)) zeros
-    at_fault q i = looks_keep _ _ l (λ _ k w h. rw y (fault_handed m s b want n x height fits r (version_is s x e) f g k w h q i))
+    pub at_fault : (q : PageFault) → r ≡ Err q → Reading true Q n z (Err (Page q)) zeros
+    at_fault q i = looks_keep _ _ l (λ _ k w h. rw y (fault_handed m s b want n x height r (version_is s x e) g k w h q i))
 
-    pub at_none : r ≡ Ok None → Reading Q n z (Err Absent) zeros
-    at_none i = looks_keep _ _ l (λ _ k w h. rw y (none_handed m s b want n x height fits r (version_is s x e) f g k w h i))
+    pub at_none : r ≡ Ok None → Reading true Q n z (Err Absent) zeros
+    at_none i = looks_keep _ _ l (λ _ k w h. rw y (none_handed m s b want n x height r (version_is s x e) g k w h i))
 
-    pub at_some : (place : Place) → r ≡ Ok (Some place) → Reading Q n z (Ok place.cell) place.leaf.bytes
-    at_some place i = looks_keep _ _ l (λ _ k w h. rw y (some_handed m s b want n x height fits r (version_is s x e) f g k w h place i))
+    pub at_some : (place : Place) → r ≡ Ok (Some place) → Reading true Q n z (Ok place.cell) place.leaf.bytes
+    at_some place i = looks_keep _ _ l (λ _ k w h. rw y (some_handed m s b want n x height r (version_is s x e) g k w h place i))

@@ -10,6 +10,7 @@ pub(crate) fn seal<D: Device>(device: &mut D, meta: &Meta) -> Result<(), DeviceF
 {
     device.sync()?;
     let page = meta.encode();
+    // it fits: 0 or 1
     device.write((meta.commit % 2) as u32, &page)?;
     device.sync()
 }

@@ -1,6 +1,6 @@
 ghost use Rattle.std.specs.Prelude.{◌≡◌};
 ghost use Rattle.store.specs.Reading.{shut_if_off};
-ghost use Rattle.store.specs.States.{version_in, idle_in, transaction_in, outside_in};
+ghost use Rattle.store.specs.States.{version_in};
 ghost use Rattle.store.specs.Versions.{Forgotten};
 
 use device::DeviceFault;
@@ -37,38 +37,6 @@ impl State {
         }
     }
 
-    // The committed version, from which a transaction may begin.
-    pub(crate) fn idle(self) -> Result<Meta, StoreFault>
-        ensures { result ≡ idle_in self }
-    {
-        match self {
-            State::Shut => Err(StoreFault::Shut),
-            State::Idle(committed) => Ok(committed),
-            State::InTransaction(_) => Err(StoreFault::InTransaction),
-        }
-    }
-
-    // The transaction that a commit or an abort ends.
-    pub(crate) fn transaction(self) -> Result<Transaction, StoreFault>
-        ensures { result ≡ transaction_in self }
-    {
-        match self {
-            State::Shut => Err(StoreFault::Shut),
-            State::Idle(_) => Err(StoreFault::NoTransaction),
-            State::InTransaction(transaction) => Ok(transaction),
-        }
-    }
-
-    // Refuses what is not done in a transaction.
-    pub(crate) fn outside_transaction(self) -> Result<(), StoreFault>
-        ensures { result ≡ outside_in self }
-    {
-        match self {
-            State::InTransaction(_) => Err(StoreFault::InTransaction),
-            State::Shut | State::Idle(_) => Ok(()),
-        }
-    }
-
     // A store whose device is off is shut.
     pub(crate) fn shut_if_off(&mut self, found: &Result<Option<Place>, PageFault>)
         ensures { self.new ≡ shut_if_off found.now self.old }
@@ -79,7 +47,8 @@ impl State {
     }
 }
 
-// Marks on the pages of the committed and of the working tree: what they hold is not free.
+// Marks on the pages of the committed and of the working tree: what they hold is not free. They stand beside the state, and not in
+// it: a state is copied where a call matches it, and marks are a kilobyte each.
 #[derive(Clone, Copy)]
 pub struct Held {
     pub committed: Marks,

@@ -15,11 +15,17 @@ impl<D: Device> Store<D> {
         ensures { StoreActs D.Reader self.old self.new (λ s z t. Commits s z t result) }
     {
         ticket.take_back();
-        let working = self.state.transaction()?.working;
-        self.state = State::Shut;
-        seal(&mut self.device, &working)?;
-        self.state = State::Idle(working);
-        self.held.committed = self.held.working;
-        Ok(working.commit)
+        match self.state {
+            State::Shut => Err(StoreFault::Shut),
+            State::Idle(_) => Err(StoreFault::NoTransaction),
+            State::InTransaction(transaction) => {
+                let working = transaction.working;
+                self.state = State::Shut;
+                seal(&mut self.device, &working)?;
+                self.state = State::Idle(working);
+                self.held.committed = self.held.working;
+                Ok(working.commit)
+            }
+        }
     }
 }

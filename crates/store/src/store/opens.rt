@@ -13,7 +13,9 @@ impl<D: Device> Store<D> {
     pub fn open(&mut self) -> Result<u64, StoreFault>
         ensures { StoreActs D.Reader self.old self.new (λ s z t. Opens s z t result) }
     {
-        self.state.outside_transaction()?;
+        if let State::InTransaction(_) = self.state {
+            return Err(StoreFault::InTransaction);
+        }
         self.state = State::Shut;
         let found = reopen(&mut self.device)?;
         self.state = State::Idle(found.meta);

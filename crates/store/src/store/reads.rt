@@ -1,49 +1,30 @@
 // Get and after: the leaf page goes into the caller's buffer, and the number of the cell is the answer.
-ghost use Rattle.std.specs.Prelude.{◌≡◌, List, Option, OnErr};
+ghost use Rattle.std.specs.Prelude.{◌≡◌, true, List, Ok, Option, OnErr};
 ghost use Rattle.device.specs.Medium.{zeros};
 ghost use Rattle.cuts.specs.Nodes.{Pair};
 ghost use Rattle.tree.specs.Maps.{first_above};
 ghost use Rattle.search.specs.Finding.{pair_with};
 ghost use Rattle.store.specs.Reading.{is_key, is_short, Seeks, ReadsOut};
+ghost use Rattle.store.specs.States.{version_in};
 
 use crate::store::Store;
 use device::{Device, PAGE_SIZE, Page};
 use faults::StoreFault;
+use meta::Meta;
 use page::PageFault;
 use search::{Place, Tree};
 
-// The most bytes that a key has.
-const LONGEST_KEY: usize = 64;
-
-// Whether the map may have this key.
-fn is_key(key: &[u8]) -> bool
-    ensures { result ≡ is_key key.now }
-{
-    !key.is_empty() && is_short(key)
-}
-
-// Whether the map's keys may be compared with this one.
-fn is_short(key: &[u8]) -> bool
-    ensures { result ≡ is_short key.now }
-{
-    key.len() <= LONGEST_KEY
-}
-
 impl<D: Device> Store<D> {
     // The place that the search finds in the tree of the version that is read: its leaf, in the buffer, and the cell.
-    // `fits` says whether the key's length does.
-    fn look_up<F>(&mut self, fits: bool, search: F, buffer: &mut Page) -> Result<usize, StoreFault>
+    fn look_up<F>(&mut self, meta: Meta, search: F, buffer: &mut Page) -> Result<usize, StoreFault>
     where
         F: FnOnce(&mut D, Tree) -> Result<Option<Place>, PageFault>,
-        requires { F.IsAlwaysCallable search }
+        requires callable { F.IsAlwaysCallable search }
+        requires version { Ok meta ≡ version_in self.old.state }
+        requires clear { buffer.old ≡ zeros }
         ensures cleared { OnErr result (buffer.new ≡ zeros) }
-        ensures model { (want : List Pair → Option Pair) → Seeks D.Reader (F.post search) want → ReadsOut D.Reader self.old self.new fits want result buffer.new }
+        ensures model { (want : List Pair → Option Pair) → Seeks D.Reader (F.post search) want → ReadsOut D.Reader self.old self.new true want result buffer.new }
     {
-        *buffer = [0; PAGE_SIZE];
-        let meta = self.state.version()?;
-        if !fits {
-            return Err(StoreFault::KeyLength);
-        }
         let tree = Tree {
             root: meta.root,
             height: meta.levels.saturating_sub(1),
@@ -62,7 +43,12 @@ impl<D: Device> Store<D> {
         ensures cleared { OnErr result (buffer.new ≡ zeros) }
         ensures model { ReadsOut D.Reader self.old self.new (is_key key.now) (pair_with key.now) result buffer.new }
     {
-        self.look_up(is_key(key), |device, tree| tree.find(device, key), buffer)
+        *buffer = [0; PAGE_SIZE];
+        let meta = self.state.version()?;
+        let 1..=64 = key.len() else {
+            return Err(StoreFault::KeyLength);
+        };
+        self.look_up(meta, |device, tree| tree.find(device, key), buffer)
     }
 
     // The place of the first pair with a greater key. The key may be empty.
@@ -70,10 +56,11 @@ impl<D: Device> Store<D> {
         ensures cleared { OnErr result (buffer.new ≡ zeros) }
         ensures model { ReadsOut D.Reader self.old self.new (is_short key.now) (first_above key.now) result buffer.new }
     {
-        self.look_up(
-            is_short(key),
-            |device, tree| tree.after(device, key),
-            buffer,
-        )
+        *buffer = [0; PAGE_SIZE];
+        let meta = self.state.version()?;
+        let 0..=64 = key.len() else {
+            return Err(StoreFault::KeyLength);
+        };
+        self.look_up(meta, |device, tree| tree.after(device, key), buffer)
     }
 }

@@ -1,6 +1,6 @@
 // Format and power return, after which a store is shut.
 ghost use Rattle.std.specs.Prelude.{◌≡◌};
-ghost use Rattle.device.specs.History.{Happens, power_returned};
+ghost use Rattle.device.specs.History.{HappensOn, power_returned};
 ghost use Rattle.store.specs.Formatting.{FormatsTo};
 ghost use Rattle.store.specs.Snapshots.{StoreActs};
 ghost use Rattle.store.specs.Versions.{Forgotten};
@@ -18,7 +18,9 @@ impl<D: Device> Store<D> {
     pub fn format(&mut self) -> Result<(), StoreFault>
         ensures { StoreActs D.Reader self.old self.new (λ s z t. FormatsTo s z result) }
     {
-        self.state.outside_transaction()?;
+        if let State::InTransaction(_) = self.state {
+            return Err(StoreFault::InTransaction);
+        }
         check_room(self.device.pages())?;
         self.state = State::Shut;
         lay_out(&mut self.device)?;
@@ -29,7 +31,7 @@ impl<D: Device> Store<D> {
 impl<D: PowerCycle> Store<D> {
     // Power returns, whether it had failed or not. The store is shut, and keeps nothing but its device.
     pub fn power_return(&mut self)
-        ensures device { Happens (D.Reader.past self.old.device) (D.Reader.medium self.old.device) power_returned (D.Reader.past self.new.device) (D.Reader.medium self.new.device) }
+        ensures device { HappensOn D.Reader.past D.Reader.medium self.old.device power_returned self.new.device }
         ensures shut { self.new.state ≡ Shut }
         ensures forgotten { Forgotten self.new.held }
     {

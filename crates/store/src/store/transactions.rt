@@ -32,17 +32,22 @@ impl<D: Device> Store<D> {
         ensures device { self.new.device ≡ self.old.device }
         ensures model { ObeysIfSound (snapshot D.Reader self.old) (snapshot D.Reader self.new) begins (granted result) }
     {
-        let committed = self.state.idle()?;
-        let Some(commit) = committed.commit.checked_add(1) else {
-            return Err(StoreFault::LastCommit);
-        };
-        let working = Meta {
-            commit,
-            ..committed
-        };
-        self.state = State::InTransaction(Transaction { committed, working });
-        self.held.working = self.held.committed;
-        Ok(Ticket::new())
+        match self.state {
+            State::Shut => Err(StoreFault::Shut),
+            State::InTransaction(_) => Err(StoreFault::InTransaction),
+            State::Idle(committed) => {
+                let Some(commit) = committed.commit.checked_add(1) else {
+                    return Err(StoreFault::LastCommit);
+                };
+                let working = Meta {
+                    commit,
+                    ..committed
+                };
+                self.state = State::InTransaction(Transaction { committed, working });
+                self.held.working = self.held.committed;
+                Ok(Ticket::new())
+            }
+        }
     }
 
     // Ends the transaction: the working map is dropped.
@@ -51,8 +56,13 @@ impl<D: Device> Store<D> {
         ensures model { ObeysIfSound (snapshot D.Reader self.old) (snapshot D.Reader self.new) aborts result }
     {
         ticket.take_back();
-        let committed = self.state.transaction()?.committed;
-        self.state = State::Idle(committed);
-        Ok(())
+        match self.state {
+            State::Shut => Err(StoreFault::Shut),
+            State::Idle(_) => Err(StoreFault::NoTransaction),
+            State::InTransaction(transaction) => {
+                self.state = State::Idle(transaction.committed);
+                Ok(())
+            }
+        }
     }
 }

@@ -1,27 +1,20 @@
 use Rattle.std.proofs.Common.{Ok, ap, ◌∙◌}
 use Rattle.std.proofs.lemmas.Result.{err_from_is_err_and}
-use Rattle.store.proofs.Handing.{at_shut, at_length, at_fault, at_none, at_some}
+use Rattle.store.proofs.Handing.{at_fault, at_none, at_some}
 use Rattle.store.proofs.store.Store.look_up.Goals as goal
-
-pub returns-in_err-meta-clause-model : goal.returns-in_err-meta-clause-model
-returns-in_err-meta-clause-model g c want k =
-    let q = err_from_is_err_and c.from_residual.result c.from_residual.ensures.1 in
-    rw (q.1, q.2) (at_shut _ _ c.args.self.now.state c.args.self.now.held want c.args.fits _ c.in_err-meta.ensures)
-
-pub returns-then-not-fits-clause-model : goal.returns-then-not-fits-clause-model
-returns-then-not-fits-clause-model g c want k = at_length _ _ c.args.self.now.state c.args.self.now.held want c.args.fits c.in_ok-meta.meta c.in_ok-meta.ensures c.if-not-fits.true
 
 pub returns-in_err-place-clause-model : goal.returns-in_err-place-clause-model
 returns-in_err-place-clause-model g c want k =
-    let q = err_from_is_err_and c.from_residual-in_err-place.result c.from_residual-in_err-place.ensures.1 in
-    rw (q.1, q.2)
-    (at_fault _ _ c.args.self.now.state c.args.self.now.held want c.args.fits _ _ c.in_ok-meta.meta c.saturating_sub.result c.search-found.result _ c.in_ok-meta.ensures c.if-not-fits.false c.saturating_sub.ensures (k _ _ _ _ c.search-found.ensures) c.shut_if_off.ensures _ c.in_err-place.was)
+    let q = err_from_is_err_and c.from_residual.result c.from_residual.ensures.1 in
+    rw (q.1, q.2, c.requires.clear)
+    (at_fault _ _ c.args.self.now.state c.args.self.now.held want _ _ c.args.meta c.saturating_sub.result c.search-found.result _ c.requires.version c.saturating_sub.ensures (k _ _ _ _ c.search-found.ensures) c.shut_if_off.ensures _ c.in_err-place.was)
 
 pub returns-in_default-clause-model : goal.returns-in_default-clause-model
 returns-in_default-clause-model g c want k =
-    at_none _ _ c.args.self.now.state c.args.self.now.held want c.args.fits _ _ c.in_ok-meta.meta c.saturating_sub.result c.search-found.result _ c.in_ok-meta.ensures c.if-not-fits.false c.saturating_sub.ensures (k _ _ _ _ c.search-found.ensures) c.shut_if_off.ensures (c.in_ok-place.was ∙ ap Ok c.in_default.is)
+    rw c.requires.clear
+    (at_none _ _ c.args.self.now.state c.args.self.now.held want _ _ c.args.meta c.saturating_sub.result c.search-found.result _ c.requires.version c.saturating_sub.ensures (k _ _ _ _ c.search-found.ensures) c.shut_if_off.ensures (c.in_ok-place.was ∙ ap Ok c.in_default.is))
 
 pub returns-clause-model : goal.returns-clause-model
 returns-clause-model g c want k =
     rw c.bytes.ensures
-    (at_some _ _ c.args.self.now.state c.args.self.now.held want c.args.fits _ _ c.in_ok-meta.meta c.saturating_sub.result c.search-found.result _ c.in_ok-meta.ensures c.if-not-fits.false c.saturating_sub.ensures (k _ _ _ _ c.search-found.ensures) c.shut_if_off.ensures c.in-Some.place (c.in_ok-place.was ∙ ap Ok c.in-Some.is))
+    (at_some _ _ c.args.self.now.state c.args.self.now.held want _ _ c.args.meta c.saturating_sub.result c.search-found.result _ c.requires.version c.saturating_sub.ensures (k _ _ _ _ c.search-found.ensures) c.shut_if_off.ensures c.in-Some.place (c.in_ok-place.was ∙ ap Ok c.in-Some.is))
