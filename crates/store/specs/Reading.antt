@@ -4,7 +4,7 @@ use Rattle.std.specs.List.{ContainsAt}
 use Rattle.std.specs.Result.{result_ok}
 use denote.Ref.{MutBor}
 use Rattle.device.specs.Medium.{zeros}
-use Rattle.device.specs.Looking.{Looks}
+use Rattle.device.specs.Looking.{On, LooksOn}
 use Rattle.device.specs.declared.Reader.{Ghosts}
 use Rattle.device.specs.declared.fault.DeviceFault.TheVariants.{Outside, Off}
 use Rattle.cuts.specs.Nodes.{Pair}
@@ -67,12 +67,12 @@ HandsIfSound s z fits want a buffer = IsSound s → Hands s z (reads z.medium.on
 -- from a store to what it becomes, by reads of its device
 abbrev pub ReadsOut : {D : Type 0} → Ghosts D → Store D → Store D → (fits : Bool) → (List Pair → Option Pair) → Result ℕ StoreFault → List ℕ → Type 0
 ReadsOut r s z fits want a buffer =
-    Looks (r.past s.device) (r.medium s.device) (r.past z.device) (r.medium z.device) (λ _. HandsIfSound (snapshot r s) (snapshot r z) fits want a buffer)
+    LooksOn r s.device z.device (λ m n t. HandsIfSound (snapshot r s) (snapshot r z) fits want a buffer)
 
 -- Each call of the search, of which `post` tells, searches its tree for what is wanted.
 abbrev pub Seeks : {D : Type 0} → Ghosts D → (MutBor D → Tree → Result (Option Place) PageFault → MutBor D → Type 0) → (List Pair → Option Pair) → Type 0
 Seeks {D} r post want = (d e : MutBor D) (tree : Tree) (a : Result (Option Place) PageFault)
-    → post d tree a e → Searches (r.past d.now) (r.medium d.now) (r.past e.now) (r.medium e.now) tree want a
+    → post d tree a e → On r d.now e.now (λ P m Q n. Searches P m Q n tree want a)
 
 -- the state after a search
 abbrev pub shut_if_off : Result (Option Place) PageFault → State → State
