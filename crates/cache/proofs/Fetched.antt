@@ -1,7 +1,7 @@
 -- What reading a page below does, whichever way it ends.
 use Rattle.std.proofs.Common.{◌≡◌, ℕ, ◌<◌, Bool, false, List, None, Ok, Err, Option, Result, sym, refl, ap, ◌∙◌, subst, arith}
 use Rattle.std.proofs.lemmas.Bool.{both_ways}
-use Rattle.device.specs.History.{Event, Happens, did_read}
+use Rattle.device.specs.History.{Event, did_read}
 use Rattle.device.specs.declared.fault.DeviceFault.{DeviceFault}
 use Rattle.device.specs.declared.Reader.{Ghosts}
 use Rattle.cache.specs.declared.copy.Copied.{Copied}
@@ -64,7 +64,7 @@ taken_put ss ts us l p r = record {
 pub calls_same : {B : Type 0} {R : Ghosts B} {c d e : Cache B} {v : Event} {r : Result Unit DeviceFault}
     → d ≡ c → Passes R d v r e → Calls R c v e
 calls_same {B = B} {R = R} {e = e} {v = v} z h =
-    subst (λ (x : Cache B). Happens (R.past x.below) (R.medium x.below) v (R.past e.below) (R.medium e.below)) z h.happens
+    subst (λ (x : Cache B). Calls R x v e) z h.happens
 
 pub fetches_crowded : {B : Type 0} {R : Ghosts B} {c d : Cache B} (q : ℕ) (b : List ℕ) (y : DeviceFault)
     → Finding R c q (Err y) d → Fetches R c q b (Err y) d

@@ -2,7 +2,7 @@
 -- device below, and `off` is what the cache knows of the device's power.
 use Rattle.std.specs.Prelude.{◌≡◌, ℕ, ◌<◌, Bool, true, false, ◌||◌, List, is_some, Option}
 use Rattle.device.specs.Medium.{Medium}
-use Rattle.device.specs.History.{History, Event, Happens}
+use Rattle.device.specs.History.{History, Event, HappensOn}
 use Rattle.device.specs.declared.Reader.{Ghosts}
 use Rattle.cache.specs.declared.copy.Copied.{Copied}
 use Rattle.cache.specs.declared.cache.Cache.{Cache}
@@ -44,4 +44,4 @@ cache_past R c h = Stands R c
 
 -- the event e on a cache that is c before it, and d after it
 abbrev pub HappensTo : {B : Type 0} → Ghosts B → Cache B → Event → Cache B → Type 0
-HappensTo R c e d = Happens (cache_past R c) (cache_medium R c) e (cache_past R d) (cache_medium R d)
+HappensTo R c e d = HappensOn (cache_past R) (cache_medium R) c e d

@@ -3,7 +3,7 @@
 -- left open.
 use Rattle.std.specs.Prelude.{◌≡◌, ℕ, Bool, true, false, cond, ◌⊎◌, List, replicate, is_some, Some, None, Ok, Err, Option, Result, nat_lt}
 use Rattle.device.specs.Medium.{zeros}
-use Rattle.device.specs.History.{Event, Happens, did_read, did_sync, power_returned}
+use Rattle.device.specs.History.{Event, HappensOn, did_read, did_sync, power_returned}
 use Rattle.device.specs.declared.Reader.{Ghosts}
 use Rattle.device.specs.declared.fault.DeviceFault.{DeviceFault}
 use Rattle.device.specs.declared.fault.DeviceFault.TheVariants.{Outside, Off}
@@ -38,7 +38,7 @@ pub record Same {B : Type 0} (c d : Cache B) : Type 0 where
 
 -- the call e of the device below, and no other
 abbrev pub Calls : {B : Type 0} → Ghosts B → Cache B → Event → Cache B → Type 0
-Calls R c e d = Happens (R.past c.below) (R.medium c.below) e (R.past d.below) (R.medium d.below)
+Calls R c e d = HappensOn R.past R.medium c.below e d.below
 
 -- A page that is not held is read below, and held. Unless a changed page leaves for it, there is no other call.
 pub record Fetches {B : Type 0} (R : Ghosts B) (c : Cache B) (q : ℕ) (b : List ℕ) (r : Result Unit DeviceFault) (d : Cache B) : Type 0 where
@@ -109,6 +109,6 @@ says_off (Err Off) = true
 pub record Makes {B : Type 0} (R : Ghosts B) (below : B) (c : Cache B) : Type 0 where
   pub buffer : List ℕ
   pub answer : Result Unit DeviceFault
-  pub one_call : Happens (R.past below) (R.medium below) (did_read 0 buffer answer) (R.past c.below) (R.medium c.below)
+  pub one_call : HappensOn R.past R.medium below (did_read 0 buffer answer) c.below
   pub empty : Empty (pages_of c)
   pub knows : c.off ≡ says_off answer

@@ -3,7 +3,7 @@
 -- disk after it.
 use Rattle.std.specs.Prelude.{◌≡◌, ℕ, Bool, cond, List, length, map, is_ok, Err, Result, nat_lt, slice_set}
 use Rattle.device.specs.Medium.{Medium, zeros, Durable}
-use Rattle.device.specs.History.{Event, History, Happens}
+use Rattle.device.specs.History.{Event, History, HappensOn}
 use Rattle.device.specs.declared.fault.DeviceFault.{DeviceFault}
 use Rattle.device.specs.declared.fault.DeviceFault.TheVariants.{Outside}
 use Rattle.disks.specs.Fuses.{powered, lasts, counted, renewed}
@@ -30,7 +30,7 @@ disk_past {S} {g} d = past_of g.at_once (pages_of d) (powered d.fuse)
 
 -- the call v of the disk
 abbrev pub Does : {S : Type 0} {g : Ghosts S} → Disk S g → Event → Disk S g → Type 0
-Does d v e = Happens (disk_past d) (disk_medium d) v (disk_past e) (disk_medium e)
+Does d v e = HappensOn disk_past disk_medium d v e
 
 -- the answer to a call that names no page
 abbrev pub answer : {S : Type 0} {g : Ghosts S} → Disk S g → Result Unit DeviceFault

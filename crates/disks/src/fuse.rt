@@ -3,7 +3,8 @@ ghost use Rattle.disks.specs.Fuses.{fresh, powered, lasts, counted, renewed};
 
 use device::DeviceFault;
 
-// When power fails: the `limit`-th call is the first that is refused, none if `limit` is 0.
+// When power fails: the `limit`-th call is the first that is refused, none if `limit` is 0. The rules by which a disk
+// is made say so; an option here would need an invariant that no limit is 0, and its proof wherever one is made.
 #[derive(Clone, Copy)]
 pub struct Fuse {
     limit: u64,

@@ -1,6 +1,6 @@
 ghost use Rattle.std.specs.Prelude.{◌≡◌, true, false, ◌||◌, None, Ok, Err};
 ghost use Rattle.std.specs.Fn.{FnOnceReturnsAtMut};
-ghost use Rattle.device.specs.History.{Happens, did_read, did_write, did_sync};
+ghost use Rattle.device.specs.History.{HappensOn, did_read, did_write, did_sync};
 ghost use Rattle.cache.specs.Held.{is_changed, slot_at};
 ghost use Rattle.cache.specs.Cached.{pages_of, copies_of, HappensTo};
 ghost use Rattle.cache.specs.Calls.{says_off, admitted, Fetches, Stores, Syncing};
@@ -14,7 +14,7 @@ use device::{Device, DeviceFault, PAGE_SIZE, Page, Reader};
 
 // A page of a device, as a value: of a buffer that a closure writes to, the proof of its caller would learn nothing.
 pub(super) fn read_page<R: Reader>(device: &mut R, page: u32) -> Result<Page, DeviceFault>
-    ensures { Happens (R.past device.old) (R.medium device.old) (did_read page (bytes_in result) (answer_of result)) (R.past device.new) (R.medium device.new) }
+    ensures { HappensOn R.past R.medium device.old (did_read page (bytes_in result) (answer_of result)) device.new }
 {
     let mut bytes = [0; PAGE_SIZE];
     device.read(page, &mut bytes)?;

@@ -1,4 +1,4 @@
-ghost use Rattle.device.specs.History.{Happens, did_read};
+ghost use Rattle.device.specs.History.{HappensOn, did_read};
 ghost use Rattle.disks.specs.Images.{image_medium};
 ghost use Rattle.disks.specs.ImageCalls.{bytes_of, Makes, ImageReads};
 ghost use Rattle.disks.specs.Parts.{part_length};
@@ -33,7 +33,7 @@ impl Reader for Image {
     }
 
     fn read(&mut self, page: u32, buffer: &mut Page) -> Result<(), DeviceFault>
-        ensures meaning { Happens (λ _. Unit {0}) (image_medium (bytes_of self.old)) (did_read page buffer.new result) (λ _. Unit {0}) (image_medium (bytes_of self.new)) }
+        ensures meaning { HappensOn (λ _ _. Unit {0}) (λ i. image_medium (bytes_of i)) self.old (did_read page buffer.new result) self.new }
         ensures exact { ImageReads self.old page buffer.new result self.new }
     {
         *buffer = [0; PAGE_SIZE];

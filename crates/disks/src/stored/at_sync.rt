@@ -1,4 +1,5 @@
-ghost use Rattle.std.specs.Prelude.{◌≡◌, false, length};
+ghost use Rattle.std.specs.Prelude.{◌≡◌, false, length, is_some, unwrap_or};
+ghost use Rattle.disks.specs.Parts.{none_kept};
 
 use crate::stored::Stored;
 use device::{PAGE_SIZE, Page};
@@ -7,29 +8,25 @@ use device::{PAGE_SIZE, Page};
 #[derive(Clone, Copy)]
 pub struct AtSync {
     bytes: Page,
-    // as it was when it was last durable
-    durable: Page,
-    // written to since
-    changed: bool,
+    // as it was when it was last durable, if it was written to since
+    durable: Option<Page>,
     ghost full: { length bytes ≡ 512 },
-    ghost durable_full: { length durable ≡ 512 },
-    ghost unchanged: { changed ≡ false → durable ≡ bytes },
+    ghost durable_full: { length (unwrap_or durable bytes) ≡ 512 },
 }
 
 impl Stored for AtSync {
     ghost at_once = { false };
 
-    ghost kept = { λ s. record { bytes = s.bytes; durable = s.durable; volatile = s.changed } };
+    ghost kept = { λ s. record { bytes = s.bytes; durable = unwrap_or s.durable s.bytes; volatile = is_some s.durable } };
 
     ghost full = { λ s. s.full };
 
-    ghost sound = { λ s. record { agrees = s.unchanged; never = λ e. Prim.cc } };
+    ghost sound = { λ s. record { agrees = none_kept s.durable s.bytes; never = λ e. Prim.cc } };
 
     fn blank() -> Self {
         AtSync {
             bytes: [0; PAGE_SIZE],
-            durable: [0; PAGE_SIZE],
-            changed: false,
+            durable: None,
         }
     }
 
@@ -38,17 +35,17 @@ impl Stored for AtSync {
     }
 
     fn write(&mut self, bytes: &Page) {
+        self.durable.get_or_insert(self.bytes);
         self.bytes = *bytes;
-        self.changed = true;
     }
 
     fn settle(&mut self) {
-        self.durable = self.bytes;
-        self.changed = false;
+        self.durable = None;
     }
 
     fn restore(&mut self) {
-        self.bytes = self.durable;
-        self.changed = false;
+        if let Some(durable) = self.durable.take() {
+            self.bytes = durable;
+        }
     }
 }
