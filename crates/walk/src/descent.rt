@@ -32,6 +32,7 @@ impl<R: Reader> Walk<'_, R> {
         self.met.mark(at.page);
         if height == 0 {
             let leaf: LeafPage = at.load(self.reader)?;
+            // it fits: a leaf has at most 248 pairs
             return Ok(leaf.len() as u32);
         }
         let branch: BranchPage = at.load(self.reader)?;

@@ -13,13 +13,14 @@ use meta::{Meta, newer};
 use page::{Cause, PageFault};
 
 // The fewest pages that a device may have.
-const FEWEST_PAGES: u32 = 16;
+const FEWEST_PAGES: usize = 16;
 
 // Whether a device may have so many pages.
 pub fn has_room(pages: u32) -> bool
     ensures { result ≡ fits_pages pages }
 {
-    (FEWEST_PAGES..=MOST_PAGES).contains(&pages)
+    // it fits, since a `usize` is as wide at least
+    (FEWEST_PAGES..=MOST_PAGES).contains(&(pages as usize))
 }
 
 // Refuses a device of so many pages, if it may not have them.
