@@ -1,14 +1,14 @@
 -- What the bytes of a page have that reading accepts, and the children of a branch by their number.
 use Rattle.std.proofs.Common.{◌≡◌, ℕ, zero, suc, ◌+◌, ◌-◌, ◌*◌, ◌/◌, ◌%◌, ◌^◌, ◌<◌, ◌≤◌, Bool, true, false, cond, not, eqb, List, [], ◌∷◌, map, length, get_or, is_some, Some, None, Option, sym, refl, ap, ◌∙◌, arith}
 use Rattle.std.proofs.lemmas.List.{length-map}
-use Rattle.std.proofs.lemmas.Bool.{false≢true, true≢false, and_parts, leb-true, le-leb, lt-ltb}
+use Rattle.std.proofs.lemmas.Bool.{false≢true, true≢false, and_parts, leb-true, le-leb}
 use Rattle.std.proofs.lemmas.Slice.Eq.{bytes_eq-Decides}
 use Rattle.checksum.specs.Sealed.{is_sealed}
 use Rattle.cuts.specs.Keys.{key<}
 use Rattle.tree.specs.Trees.{branch}
 use Rattle.tree.specs.Places.{separator_at}
 use Rattle.tree.specs.Search.{picked, child_at}
-use Rattle.page.specs.Branches.{BranchBytes, child_of, separator_of}
+use Rattle.page.specs.Branches.{BranchBytes, child_of}
 use Rattle.page.specs.Kinds.{Rules, branch_key, branch_rules, cell_of}
 use Rattle.page.specs.Layout.{Laid, laid_out, cells_of, left_of, sum_of}
 use Rattle.page.specs.Places.{up_to}
@@ -100,7 +100,3 @@ module _ (x : ℕ) (xs : List (List ℕ)) where
       let n : suc (i - 1) ≡ i = omega arith in
       let c : child_at i x (map cell_of xs) ≡ word32 (get_or xs (i - 1) []) 2 = ap (λ m. child_at m x (map cell_of xs)) (sym n) ∙ child_after (i - 1) x xs (omega (arith, length-map xs cell_of)) in
       ap Some (e ∙ sym c) ∙ sym (ap (λ t. cond t (Some (child_at i x (map cell_of xs))) None) (le-leb _ _ h))
-
-  pub separator_some : (i : ℕ) (s : List ℕ) → i < length (map cell_of xs) → s ≡ branch_key (get_or xs i []) → Some s ≡ separator_of i (branch x (map cell_of xs))
-  separator_some i s h e =
-      ap Some (e ∙ sym (separator_at_lem i xs (omega (arith, length-map xs cell_of)))) ∙ sym (ap (λ t. cond t (Some (separator_at i (map cell_of xs))) None) (lt-ltb _ _ h))

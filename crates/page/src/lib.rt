@@ -15,6 +15,8 @@ mod short;
 mod splice;
 
 pub use branch::BranchPage;
+pub use cell::{BranchCell, Cell, LeafCell};
+pub use cell_page::CellPage;
 pub use fault::{Cause, Damage, PageFault};
 pub use grown::Grown;
 pub use leaf::{LeafPage, PairParts, pair_in};

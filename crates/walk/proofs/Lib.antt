@@ -1,5 +1,6 @@
 pub mod Slots
 pub mod Ends
+pub mod Cells
 pub mod Steps
 pub mod Metas
 pub mod Rooms

@@ -1,5 +1,6 @@
 // The walk over a whole tree.
 ghost use Rattle.std.specs.Prelude.{◌≡◌, ◌<◌, ◌≤◌, false, slice_index_or};
+ghost use Rattle.device.specs.Looking.{On};
 ghost use Rattle.paged.specs.Walk.{walk};
 ghost use Rattle.walk.specs.Spots.{low_of, high_of};
 ghost use Rattle.walk.specs.Walking.{Walks};
@@ -26,11 +27,12 @@ impl<R: Reader> Walk<'_, R> {
         requires unmet { slice_index_or self.old.met.marked at.page false ≡ false }
         ensures same_reader { self.new.reader.ghost_name ≡ self.old.reader.ghost_name }
         ensures same_size { self.new.size ≡ self.old.size }
-        ensures walks { Walks (R.Reader.past self.old.reader.now) (R.Reader.medium self.old.reader.now) (R.Reader.past self.new.reader.now) (R.Reader.medium self.new.reader.now) self.old.size self.old.met.marked self.new.met.marked (λ pages. walk pages self.old.size at.entry.is_root height (low_of at.entry) (high_of at.entry) at.entry.page) result }
+        ensures walks { On R.Reader self.old.reader.now self.new.reader.now (λ P m Q n. Walks P m Q n self.old.size self.old.met.marked self.new.met.marked (λ pages. walk pages self.old.size at.entry.is_root height (low_of at.entry) (high_of at.entry) at.entry.page) result) }
     {
         self.met.mark(at.page);
         if height == 0 {
             let leaf: LeafPage = at.load(self.reader)?;
+            // it fits: a leaf has at most 248 pairs
             return Ok(leaf.len() as u32);
         }
         let branch: BranchPage = at.load(self.reader)?;

@@ -2,12 +2,12 @@ ghost use Rattle.std.specs.Prelude.{◌≡◌, ◌≤◌, true, false, [], lengt
 ghost use Rattle.walk.specs.Marking.{MarksAre, free};
 
 // The most pages that a device may have.
-pub(crate) const MOST_PAGES: u32 = 1024;
+pub(crate) const MOST_PAGES: usize = 1024;
 
-// Marks on pages.
+// Marks on pages. (A page's number is cast to its place among them: it fits, since a `usize` is as wide at least.)
 #[derive(Clone, Copy)]
 pub struct Marks {
-    marked: [bool; MOST_PAGES as usize],
+    marked: [bool; MOST_PAGES],
     ghost long: { length marked ≡ 1024 },
 }
 
@@ -17,7 +17,7 @@ impl Marks {
         ensures { MarksAre result.marked [] }
     {
         Marks {
-            marked: [false; MOST_PAGES as usize],
+            marked: [false; MOST_PAGES],
         }
     }
 
@@ -32,10 +32,11 @@ impl Marks {
     pub fn mark(&mut self, page: u32)
         ensures { self.new.marked ≡ slice_set self.old.marked page true }
     {
+        let page = page as usize;
         // By its index: with `get_mut` the proof does not close, since what that lends out of a field that a ghost field
         // speaks of is not known to come back.
         if page < MOST_PAGES {
-            self.marked[page as usize] = true;
+            self.marked[page] = true;
         }
     }
 

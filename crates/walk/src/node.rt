@@ -1,96 +1,51 @@
 // A page of the tree, read and tested by itself.
-ghost use Rattle.std.specs.Prelude.{◌≡◌, ℕ, Bool, List, ◌++◌};
+ghost use Rattle.std.specs.Prelude.{◌≡◌, ℕ, map, ◌++◌};
 ghost use Rattle.std.specs.Option.{option_map, option_to_list};
 ghost use Rattle.std.specs.Result.{result_err};
-ghost use Rattle.page.specs.Kinds.{Rules, leaf_rules, branch_rules};
-ghost use Rattle.page.specs.Loads.{Loads};
-ghost use Rattle.page.specs.Views.{pairs_in, branch_in};
-ghost use Rattle.paged.specs.Walk.{all_within, keys_of, separators_of, leaf_filled, branch_filled, cause_in, fault_in, damage};
-ghost use Rattle.walk.specs.Spots.{low_of, high_of};
+ghost use Rattle.device.specs.Looking.{On};
+ghost use Rattle.page.specs.Layout.{cells_of};
+ghost use Rattle.paged.specs.Walk.{all_within, fault_in, damage};
+ghost use Rattle.walk.specs.Spots.{low_of, high_of, cells_filled, cells_cause};
 ghost use Rattle.walk.specs.Walking.{Tests};
 
 use crate::spot::Spot;
 use cuts::key_less;
 use device::Reader;
-use page::{BranchPage, Cause, Damage, LeafPage, PageFault};
+use page::{BranchCell, Cause, Cell, CellPage, Damage, LeafCell, PageFault};
 
-// A kind of page of the tree: what the walk asks of it in words of pairs for the one kind, and of children for the other.
-pub(crate) trait Node: Copy {
-    ghost rules: { Rules };
+// A kind of cells of the tree's pages. Pages of either kind are loaded and tested alike, but for what a root may be.
+pub(crate) trait Node: Cell {
+    // the fewest cells of a root
+    const FEWEST: usize;
 
-    ghost bytes: { Self → List ℕ };
-
-    // The keys or separators of a page with these bytes.
-    ghost keys: { List ℕ → List (List ℕ) };
-
-    // Whether it has enough cells for its place: that of the root, or another.
-    ghost filled: { (root : Bool) → List ℕ → Bool };
-
-    // The page of this kind on a page of the reader.
-    fn on_page<R: Reader>(reader: &mut R, page: u32) -> Result<Self, PageFault>
-        ensures { Loads rules bytes (R.Reader.past reader.old) (R.Reader.medium reader.old) page result (R.Reader.past reader.new) (R.Reader.medium reader.new) };
-
-    // Whether its keys or separators lie within the bounds of its place.
-    fn is_within(&self, at: Spot<'_>) -> bool
-        ensures { result ≡ all_within (low_of at.entry) (high_of at.entry) (keys (bytes self.now)) };
-
-    fn is_filled(&self, is_root: bool) -> bool
-        ensures { result ≡ filled is_root (bytes self.now) };
+    ghost FEWEST: { ℕ };
 }
 
-impl Node for LeafPage {
-    ghost rules = { leaf_rules };
+// a leaf that is the root may be empty
+impl Node for LeafCell {
+    const FEWEST: usize = 0;
 
-    ghost bytes = { λ p. p.bytes };
-
-    ghost keys = { λ b. keys_of (pairs_in b) };
-
-    ghost filled = { λ root b. leaf_filled root (pairs_in b) };
-
-    fn on_page<R: Reader>(reader: &mut R, page: u32) -> Result<Self, PageFault> {
-        LeafPage::load(reader, page)
-    }
-
-    fn is_within(&self, at: Spot<'_>) -> bool {
-        let last = self.len().saturating_sub(1);
-        at.spans(self.key(0), self.key(last))
-    }
-
-    fn is_filled(&self, is_root: bool) -> bool {
-        is_root || !self.is_light()
-    }
+    ghost FEWEST = { 0 };
 }
 
-impl Node for BranchPage {
-    ghost rules = { branch_rules };
+// a branch that is the root has a separator
+impl Node for BranchCell {
+    const FEWEST: usize = 1;
 
-    ghost bytes = { λ p. p.bytes };
-
-    ghost keys = { λ b. separators_of (branch_in b).rest };
-
-    ghost filled = { λ root b. branch_filled root (branch_in b) };
-
-    fn on_page<R: Reader>(reader: &mut R, page: u32) -> Result<Self, PageFault> {
-        BranchPage::load(reader, page)
-    }
-
-    fn is_within(&self, at: Spot<'_>) -> bool {
-        let last = self.len().saturating_sub(1);
-        at.spans(self.separator(0), self.separator(last))
-    }
-
-    fn is_filled(&self, is_root: bool) -> bool {
-        if is_root {
-            self.len() > 0
-        } else {
-            !self.is_light()
-        }
-    }
+    ghost FEWEST = { 1 };
 }
 
 impl Spot<'_> {
-    // Whether both keys, if any, are from the lower bound on and below the upper one. Of keys that rise, the first and
-    // the last tell of all.
+    // Whether the keys are from the lower bound on and below the upper one. Of keys that rise, the first and the last
+    // tell of all.
+    fn bounds<C: Cell>(self, page: &CellPage<C>) -> bool
+        ensures { result ≡ all_within (low_of self.entry) (high_of self.entry) (map C.rules.key (cells_of page.now.bytes)) }
+    {
+        let last = page.len().saturating_sub(1);
+        self.spans(page.cell_key(0), page.cell_key(last))
+    }
+
+    // Whether both keys, if any, are within the bounds.
     fn spans(self, first: Option<&[u8]>, last: Option<&[u8]>) -> bool
         ensures { result ≡ all_within (low_of self.entry) (high_of self.entry) (option_to_list (option_map (λ x. x.now) first.entry) ++ option_to_list (option_map (λ x. x.now) last.entry)) }
     {
@@ -106,6 +61,17 @@ impl Spot<'_> {
         !key_less(key, self.low) && self.high.is_none_or(|high| key_less(key, high))
     }
 
+    // Whether the page has enough cells for this place.
+    fn is_filled_by<C: Node>(self, page: &CellPage<C>) -> bool
+        ensures { result ≡ cells_filled C.Cell C.FEWEST self.entry.is_root page.now.bytes }
+    {
+        if self.is_root {
+            page.len() >= C::FEWEST
+        } else {
+            !page.is_light()
+        }
+    }
+
     pub(crate) fn damage(self, cause: Cause) -> Damage
         ensures { result ≡ damage self.entry.page cause }
     {
@@ -116,24 +82,24 @@ impl Spot<'_> {
     }
 
     // Tests a page in this place.
-    fn test<N: Node>(self, node: &N) -> Result<(), Damage>
-        ensures { result_err result ≡ option_map (damage self.entry.page) (cause_in (low_of self.entry) (high_of self.entry) (N.keys (N.bytes node.now)) (N.filled self.entry.is_root (N.bytes node.now))) }
+    fn test<C: Node>(self, page: &CellPage<C>) -> Result<(), Damage>
+        ensures { result_err result ≡ option_map (damage self.entry.page) (cells_cause C.Cell C.FEWEST self.entry page.now.bytes) }
     {
-        if !node.is_within(self) {
+        if !self.bounds(page) {
             return Err(self.damage(Cause::Bounds));
         }
-        if !node.is_filled(self.is_root) {
+        if !self.is_filled_by(page) {
             return Err(self.damage(Cause::Underfull));
         }
         Ok(())
     }
 
     // The page in this place, or what is wrong with it first.
-    pub(crate) fn load<N: Node, R: Reader>(self, reader: &mut R) -> Result<N, PageFault>
-        ensures { Tests (fault_in N.rules (λ b. cause_in (low_of self.entry) (high_of self.entry) (N.keys b) (N.filled self.entry.is_root b))) N.bytes (R.Reader.past reader.old) (R.Reader.medium reader.old) self.entry.page result (R.Reader.past reader.new) (R.Reader.medium reader.new) }
+    pub(crate) fn load<C: Node, R: Reader>(self, reader: &mut R) -> Result<CellPage<C>, PageFault>
+        ensures { On R.Reader reader.old reader.new (λ P m Q n. Tests (fault_in C.rules (cells_cause C.Cell C.FEWEST self.entry)) (λ p. p.bytes) P m self.entry.page result Q n) }
     {
-        let node = N::on_page(reader, self.page)?;
-        self.test(&node)?;
-        Ok(node)
+        let page = CellPage::load(reader, self.page)?;
+        self.test(&page)?;
+        Ok(page)
     }
 }

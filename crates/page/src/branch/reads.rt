@@ -36,11 +36,7 @@ impl CellPage<BranchCell> {
     pub fn separator(&self, i: usize) -> Option<&[u8]>
         ensures { option_map (λ x. x.now) result ≡ separator_of i (branch_node self.now) }
     {
-        let cells = self.cells();
-        if i >= cells.len() {
-            return None;
-        }
-        Some(cells.key(i))
+        self.cell_key(i)
     }
 
     // The number of the child that the key lies under: how many separators are at most the key.

@@ -1,4 +1,5 @@
-ghost use Rattle.std.specs.Prelude.{◌≡◌, true, ◌||◌, map, length, nat_lt};
+ghost use Rattle.std.specs.Prelude.{◌≡◌, true, ◌||◌, map, length, nat_lt, slice_get};
+ghost use Rattle.std.specs.Option.{option_map};
 ghost use Rattle.device.specs.Looking.{On};
 ghost use Rattle.cuts.specs.Cuts.{total};
 ghost use Rattle.cuts.specs.Sizes.{quarter};
@@ -62,6 +63,17 @@ impl<C: Cell> CellPage<C> {
         ensures { result ≡ length (map C.item (cells_of self.now.bytes)) }
     {
         self.cells().len()
+    }
+
+    // The key of cell i, if there is one.
+    pub fn cell_key(&self, i: usize) -> Option<&[u8]>
+        ensures { option_map (λ x. x.now) result ≡ slice_get (map C.rules.key (cells_of self.now.bytes)) i }
+    {
+        let cells = self.cells();
+        if i >= cells.len() {
+            return None;
+        }
+        Some(cells.key(i))
     }
 
     // The bytes that its cells cost.

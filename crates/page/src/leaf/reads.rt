@@ -16,16 +16,11 @@ pub(crate) fn value_of(cell: &[u8]) -> &[u8]
 }
 
 impl CellPage<LeafCell> {
-    // The key of pair i, if there is one. (Not one with the separator of a branch: what both do is `Cells::key`, and their
-    // contracts speak of pairs and of children.)
+    // The key of pair i, if there is one.
     pub fn key(&self, i: usize) -> Option<&[u8]>
         ensures { option_map (λ x. x.now) result ≡ key_of_place i (leaf_pairs self.now) }
     {
-        let cells = self.cells();
-        if i >= cells.len() {
-            return None;
-        }
-        Some(cells.key(i))
+        self.cell_key(i)
     }
 
     // The value of pair i, if there is one.

@@ -1,5 +1,5 @@
 ghost use Rattle.std.specs.Prelude.{◌≡◌, ◌≤◌, IfSome, IfOk};
-ghost use Rattle.device.specs.Looking.{Looks};
+ghost use Rattle.device.specs.Looking.{LooksOn};
 ghost use Rattle.meta.specs.Laws.{Fits};
 ghost use Rattle.walk.specs.Checking.{Newest, Rooted, WalksTree, Recovers, fits_pages, room_of, found_on, summed};
 
@@ -13,13 +13,14 @@ use meta::{Meta, newer};
 use page::{Cause, PageFault};
 
 // The fewest pages that a device may have.
-const FEWEST_PAGES: u32 = 16;
+const FEWEST_PAGES: usize = 16;
 
 // Whether a device may have so many pages.
 pub fn has_room(pages: u32) -> bool
     ensures { result ≡ fits_pages pages }
 {
-    (FEWEST_PAGES..=MOST_PAGES).contains(&pages)
+    // it fits, since a `usize` is as wide at least
+    (FEWEST_PAGES..=MOST_PAGES).contains(&(pages as usize))
 }
 
 // Refuses a device of so many pages, if it may not have them.
@@ -35,7 +36,7 @@ pub fn check_room(pages: u32) -> Result<(), StoreFault>
 // Of the meta pages that pass their test, the one with the larger commit number.
 fn newest<R: Reader>(reader: &mut R, size: u32) -> Result<Option<Meta>, DeviceFault>
     ensures rooted { IfOk result (λ o. IfSome o (Rooted size)) }
-    ensures reads { Looks (R.Reader.past reader.old) (R.Reader.medium reader.old) (R.Reader.past reader.new) (R.Reader.medium reader.new) (λ t. 2 ≤ (R.Reader.medium reader.old).size → Newest (R.Reader.medium reader.old) size (R.Reader.medium reader.new).on t result) }
+    ensures reads { LooksOn R.Reader reader.old reader.new (λ m n t. 2 ≤ m.size → Newest m size n.on t result) }
 {
     let mut page = [0; PAGE_SIZE];
     reader.read(0, &mut page)?;
@@ -50,7 +51,7 @@ fn newest<R: Reader>(reader: &mut R, size: u32) -> Result<Option<Meta>, DeviceFa
 fn walk_tree<R: Reader>(reader: &mut R, meta: &Meta, size: u32) -> Result<Marks, PageFault>
     requires small { size ≤ 1024 }
     requires rooted { Rooted size meta.now }
-    ensures { Looks (R.Reader.past reader.old) (R.Reader.medium reader.old) (R.Reader.past reader.new) (R.Reader.medium reader.new) (λ t. size ≤ (R.Reader.medium reader.old).size → WalksTree (R.Reader.medium reader.old) size meta.now (R.Reader.medium reader.new).on t result) }
+    ensures { LooksOn R.Reader reader.old reader.new (λ m n t. size ≤ m.size → WalksTree m size meta.now n.on t result) }
 {
     let root = Spot {
         page: meta.root,
@@ -75,7 +76,7 @@ fn walk_tree<R: Reader>(reader: &mut R, meta: &Meta, size: u32) -> Result<Marks,
 // page passes its test, and with the page and the cause of the walk's first fault.
 pub fn recover<R: Reader>(reader: &mut R) -> Result<Recovered, StoreFault>
     ensures fits { IfOk result (λ x. Fits x.meta) }
-    ensures found { Looks (R.Reader.past reader.old) (R.Reader.medium reader.old) (R.Reader.past reader.new) (R.Reader.medium reader.new) (λ t. Recovers (R.Reader.medium reader.old) (R.Reader.medium reader.new).on t result) }
+    ensures found { LooksOn R.Reader reader.old reader.new (λ m n t. Recovers m n.on t result) }
 {
     let size = reader.pages();
     check_room(size)?;
@@ -88,7 +89,7 @@ pub fn recover<R: Reader>(reader: &mut R) -> Result<Recovered, StoreFault>
 
 // Whether a device is sound: its last commit, pairs and levels, or the fault for which it is refused.
 pub fn check<R: Reader>(reader: &mut R) -> Result<Summary, StoreFault>
-    ensures { Looks (R.Reader.past reader.old) (R.Reader.medium reader.old) (R.Reader.past reader.new) (R.Reader.medium reader.new) (λ _. result ≡ summed (found_on (R.Reader.medium reader.old).bytes (R.Reader.medium reader.old).size (R.Reader.medium reader.new).on)) }
+    ensures { LooksOn R.Reader reader.old reader.new (λ m n _. result ≡ summed (found_on m.bytes m.size n.on)) }
 {
     let found = recover(reader)?;
     Ok(found.meta.into())

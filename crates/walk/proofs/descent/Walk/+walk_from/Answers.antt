@@ -8,11 +8,12 @@ use Rattle.page.specs.CellPages.{BranchPage}
 use Rattle.page.specs.declared.fault.PageFault.{PageFault}
 use Rattle.page.specs.CellPages.{LeafPage}
 use Rattle.page.specs.Views.{branch_node}
-use Rattle.paged.specs.Walk.{leaf_fault, branch_fault, slots_of, walk}
+use Rattle.paged.specs.Walk.{slots_of, walk}
 use Rattle.paged.proofs.Accepted.{leaf_page_has}
 use Rattle.walk.specs.Marking.{MarksAre, marked, free}
 use Rattle.walk.specs.Spots.{low_of, high_of, slot_of}
 use Rattle.walk.specs.Walking.{Told}
+use Rattle.walk.proofs.Cells.{leaf_fault_at, branch_fault_at, leaf_same, branch_same}
 use Rattle.walk.proofs.Slots.{length_slots}
 use Rattle.walk.proofs.Steps.{Going, Ends, below, marked_more, leaf_fault_lem, branch_fault_lem, walks_err, walks_leaf, going_none, going_more, going_broken, going_refused, going_done, begun}
 use Rattle.walk.proofs.descent.Walk.+walk_from.Goals as goal
@@ -20,22 +21,20 @@ use Rattle.walk.proofs.descent.Walk.+walk_from.Goals.{In_ok-branch, After-child-
 use Rattle.walk.proofs.descent.Walk.+walk_from.Given as given
 
 pub returns-in_err-leaf-clause-walks : goal.returns-in_err-leaf-clause-walks
-unfolding leaf_fault
 returns-in_err-leaf-clause-walks g t c =
     let q = err_from_is_err_and c.from_residual.result c.from_residual.ensures.1 in
     let s = c.args.at in
     let w = c.args.self.now in
     rw (q.1, q.2, c.mark.ensures)
     (walks_err (g.R.Reader.past w.reader.now) (g.R.Reader.medium w.reader.now) (g.R.Reader.past c.load.new.reader) (g.R.Reader.medium c.load.new.reader) w.size s.page w.met.marked _ c.requires.inside
-    (leaf_fault s.is_root (low_of s) (high_of s)) (λ (p : LeafPage). p.bytes) _
-    (λ f seen k e. leaf_fault_lem f w.size s.is_root c.args.height (low_of s) (high_of s) s.page seen k c.if-height-eq0.true e) c.in_err-leaf.ensures)
+    (leaf_fault_at s) (λ (p : LeafPage). p.bytes) _
+    (λ f seen k e. leaf_fault_lem f w.size s.is_root c.args.height (low_of s) (high_of s) s.page seen k c.if-height-eq0.true (leaf_same s (f s.page) ∙ e)) c.in_err-leaf.ensures)
 
 pub overflow_cast-result : goal.overflow_cast-result
 overflow_cast-result g t c =
     omega (arith, (leaf_page_has c.in_ok-leaf.leaf).few, c.len.ensures)
 
 pub returns-then-height-eq0-clause-walks : goal.returns-then-height-eq0-clause-walks
-unfolding leaf_fault
 returns-then-height-eq0-clause-walks g t c =
     let s = c.args.at in
     let w = c.args.self.now in
@@ -43,18 +42,17 @@ returns-then-height-eq0-clause-walks g t c =
     let r = c.in_ok-leaf.ensures in
     rw c.mark.ensures
     (walks_leaf (g.R.Reader.past w.reader.now) (g.R.Reader.medium w.reader.now) (g.R.Reader.past c.load.new.reader) (g.R.Reader.medium c.load.new.reader) w.size s.is_root c.args.height (low_of s) (high_of s) s.page w.met.marked
-    c.requires.small c.requires.inside w.met.long c.requires.unmet l.bytes c.len.result c.if-height-eq0.true r.0 r.1 c.len.ensures (omega (arith, (leaf_page_has l).few, c.len.ensures)))
+    c.requires.small c.requires.inside w.met.long c.requires.unmet l.bytes c.len.result c.if-height-eq0.true r.0 (leaf_same s l.bytes ∙ r.1) c.len.ensures (omega (arith, (leaf_page_has l).few, c.len.ensures)))
 
 pub returns-in_err-branch-clause-walks : goal.returns-in_err-branch-clause-walks
-unfolding branch_fault
 returns-in_err-branch-clause-walks g t c =
     let q = err_from_is_err_and c.from_residual-in_err-branch.result c.from_residual-in_err-branch.ensures.1 in
     let s = c.args.at in
     let w = c.args.self.now in
     rw (q.1, q.2, c.mark.ensures)
     (walks_err (g.R.Reader.past w.reader.now) (g.R.Reader.medium w.reader.now) (g.R.Reader.past c.load-2.new.reader) (g.R.Reader.medium c.load-2.new.reader) w.size s.page w.met.marked _ c.requires.inside
-    (branch_fault s.is_root (low_of s) (high_of s)) (λ (p : BranchPage). p.bytes) _
-    (λ f seen k e. branch_fault_lem f w.size s.is_root c.args.height (low_of s) (high_of s) s.page seen k c.if-height-eq0.false e) c.in_err-branch.ensures)
+    (branch_fault_at s) (λ (p : BranchPage). p.bytes) _
+    (λ f seen k e. branch_fault_lem f w.size s.is_root c.args.height (low_of s) (high_of s) s.page seen k c.if-height-eq0.false (branch_same s (f s.page) ∙ e)) c.in_err-branch.ensures)
 
 pub loop-i-init : goal.loop-i-init
 loop-i-init g t c = record { same_reader = refl; same_size = refl; going = going_none _ _ _ _ _ _ _ }
@@ -66,7 +64,6 @@ whole : (g : given.Over) (t : ℕ) (c : In_ok-branch g t) (R : History → Type 
     → Looks (g.R.Reader.past c.args.self.now.reader.now) (g.R.Reader.medium c.args.self.now.reader.now) R o
     (λ u. c.args.self.now.size ≤ (g.R.Reader.medium c.args.self.now.reader.now).size → (seen : List ℕ) → MarksAre c.args.self.now.met.marked seen
     → Told b (pages_read u ++ seen) o.on (walk (g.R.Reader.medium c.args.self.now.reader.now).bytes c.args.self.now.size c.args.at.is_root c.args.height (low_of c.args.at) (high_of c.args.at) c.args.at.page seen) a)
-unfolding branch_fault
 whole g t c R o b a ends =
     let s = c.args.at in
     let w = c.args.self.now in
@@ -75,7 +72,7 @@ whole g t c R o b a ends =
     let m = g.R.Reader.medium c.load-2.new.reader in
     let all = slots_of (low_of s) (high_of s) (branch_node c.in_ok-branch.branch) in
     begun (g.R.Reader.past w.reader.now) (g.R.Reader.medium w.reader.now) P m w.size s.is_root c.args.height (low_of s) (high_of s) s.page w.met.marked
-    c.requires.small c.requires.inside w.met.long c.in_ok-branch.branch.bytes c.if-height-eq0.false r.0 r.1 R o b a
+    c.requires.small c.requires.inside w.met.long c.in_ok-branch.branch.bytes c.if-height-eq0.false r.0 (branch_same s c.in_ok-branch.branch.bytes ∙ r.1) R o b a
     (subst (λ (z : List Bool). Ends P m w.size s.page (below w.size c.args.height) all z R o b a) c.mark.ensures ends)
 
 -- the loop at a child

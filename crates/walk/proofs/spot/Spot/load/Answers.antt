@@ -9,8 +9,8 @@ use Rattle.page.specs.Loads.{Loads}
 use Rattle.page.specs.declared.fault.Cause.{Cause}
 use Rattle.page.specs.declared.fault.Damage.{Damage}
 use Rattle.page.specs.declared.fault.PageFault.TheVariants.{Damaged}
-use Rattle.paged.specs.Walk.{cause_in, fault_in, damage}
-use Rattle.walk.specs.Spots.{low_of, high_of}
+use Rattle.paged.specs.Walk.{fault_in, damage}
+use Rattle.walk.specs.Spots.{cells_cause}
 use Rattle.walk.specs.Walking.{Tests}
 use Rattle.walk.proofs.spot.Spot.load.Goals as goal
 
@@ -28,5 +28,5 @@ returns-in_err-test g c =
     let q = err_from_is_err_and c.from_residual-in_err-test.result c.from_residual-in_err-test.ensures.1 in
     let s = c.args.self in
     rw (q.1, q.2)
-    (loads_damaged g.N.Node.rules (λ b. cause_in (low_of s) (high_of s) (g.N.Node.keys b) (g.N.Node.filled s.is_root b)) g.N.Node.bytes (g.R.Reader.past c.args.reader.now) (g.R.Reader.medium c.args.reader.now) s.page
-    (g.R.Reader.past c.on_page.new.reader) (g.R.Reader.medium c.on_page.new.reader) c.in_ok-node.node c.in_err-test.field-0.0 _ c.in_ok-node.ensures refl c.in_err-test.ensures)
+    (loads_damaged g.C.Cell.rules (cells_cause g.C.Cell g.C.Node.FEWEST s) (λ p. p.bytes) (g.R.Reader.past c.args.reader.now) (g.R.Reader.medium c.args.reader.now) s.page
+    (g.R.Reader.past c.load.new.reader) (g.R.Reader.medium c.load.new.reader) c.in_ok-page.page c.in_err-test.field-0.0 _ c.in_ok-page.ensures refl c.in_err-test.ensures)
