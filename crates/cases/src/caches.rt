@@ -1,8 +1,8 @@
 // A cache over a device, beside the device alone: what a client sees of either has to be the same.
+use crate::limits::cut_at_each;
 use cache::Cache;
 use device::{Device, DeviceFault, Page, PowerCycle, Reader};
 use disks::{WriteBehind, WriteThrough};
-use std::alloc::AllocError;
 use std::process::Abort;
 use std::test::Fail;
 
@@ -56,38 +56,36 @@ fn cut<D: PowerCycle>(rt: &impl Abort, device: &mut D) -> Result<u8, Fail> {
 // Past the last call that the rounds make.
 const PAST: u64 = 80;
 
-// The device that a limit makes, cut at each limit from the first.
-fn cut_at_each<D: PowerCycle + Drop, F: Fn(u64) -> Result<D, AllocError>>(
-    rt: &impl Abort,
-    first: u64,
-    make: F,
-) -> Result<(), Fail>
-    requires { F.IsAlwaysCallable make }
-{
-    for limit in first..PAST {
-        cut(rt, &mut make(limit)?)?;
-    }
-    Ok(())
-}
-
 #[test]
 fn cached_write_behind_is_cut_at_each_call(rt: HostRuntime) -> Result<(), Fail> {
-    cut_at_each(&rt, 3, |limit| {
-        Ok(Cache::new(WriteBehind::new(rt.alloc(), PAGES, limit)?))
-    })
+    cut_at_each(
+        3..PAST,
+        |limit| Ok(Cache::new(WriteBehind::new(rt.alloc(), PAGES, limit)?)),
+        |device, _| cut(&rt, device).map(|_| ()),
+    )
 }
 
 #[test]
 fn cached_write_through_is_cut_at_each_call(rt: HostRuntime) -> Result<(), Fail> {
-    cut_at_each(&rt, 3, |limit| {
-        Ok(Cache::new(WriteThrough::new(rt.alloc(), PAGES, limit)?))
-    })
+    cut_at_each(
+        3..PAST,
+        |limit| Ok(Cache::new(WriteThrough::new(rt.alloc(), PAGES, limit)?)),
+        |device, _| cut(&rt, device).map(|_| ()),
+    )
 }
 
 #[test]
 fn bare_devices_are_cut_at_each_call(rt: HostRuntime) -> Result<(), Fail> {
-    cut_at_each(&rt, 2, |limit| WriteBehind::new(rt.alloc(), PAGES, limit))?;
-    cut_at_each(&rt, 2, |limit| WriteThrough::new(rt.alloc(), PAGES, limit))
+    cut_at_each(
+        2..PAST,
+        |limit| WriteBehind::new(rt.alloc(), PAGES, limit),
+        |device, _| cut(&rt, device).map(|_| ()),
+    )?;
+    cut_at_each(
+        2..PAST,
+        |limit| WriteThrough::new(rt.alloc(), PAGES, limit),
+        |device, _| cut(&rt, device).map(|_| ()),
+    )
 }
 
 #[test]
@@ -110,13 +108,13 @@ fn reads_of_one_page_call_once(rt: HostRuntime) -> Result<(), Fail> {
     assert_eq!(rt; cache.below().calls(), 2);
     cache.write(4, &[7; 512])?;
     cache.read(4, &mut buffer)?;
-    assert_eq!(rt; filled_with(&buffer), Some(7));
+    assert_eq!(rt; buffer, [7; 512]);
     assert_eq!(rt; cache.below().calls(), 2);
     assert!(rt; cache.is_held(3));
     cache.power_return();
     assert!(rt; !cache.is_held(3));
     cache.read(4, &mut buffer)?;
-    assert_eq!(rt; filled_with(&buffer), Some(0));
+    assert_eq!(rt; buffer, [0; 512]);
     Ok(())
 }
 
@@ -125,10 +123,10 @@ fn cache_over_a_device_that_is_off(rt: HostRuntime) -> Result<(), Fail> {
     let mut cache = Cache::new(WriteBehind::new(rt.alloc(), PAGES, 1)?);
     let mut buffer = [9; 512];
     assert_eq!(rt; cache.read(PAGES, &mut buffer), Err(DeviceFault::Outside));
-    assert_eq!(rt; filled_with(&buffer), Some(0));
+    assert_eq!(rt; buffer, [0; 512]);
     buffer = [9; 512];
     assert_eq!(rt; cache.read(0, &mut buffer), Err(DeviceFault::Off));
-    assert_eq!(rt; filled_with(&buffer), Some(0));
+    assert_eq!(rt; buffer, [0; 512]);
     assert_eq!(rt; cache.write(0, &[1; 512]), Err(DeviceFault::Off));
     assert_eq!(rt; cache.sync(), Err(DeviceFault::Off));
     Ok(())

@@ -1,6 +1,6 @@
+use crate::limits::cut_at_each;
 use device::{Device, DeviceFault, Page, PowerCycle, Reader};
 use disks::{Image, ImageFault, WriteBehind, WriteThrough};
-use std::alloc::AllocError;
 use std::process::Abort;
 use std::test::Fail;
 
@@ -49,26 +49,28 @@ fn cut_and_returned<D: PowerCycle>(rt: &impl Abort, device: &mut D, limit: u64) 
     cut_at(rt, device, limit, "power returned twice");
 }
 
-fn cut_at_each_limit<D: PowerCycle + Drop, F: Fn(u64) -> Result<D, AllocError>>(
-    rt: &impl Abort,
-    make: F,
-) -> Result<(), Fail>
-    requires { F.IsAlwaysCallable make }
-{
-    for limit in 0..13u64 {
-        cut_and_returned(rt, &mut make(limit)?, limit);
-    }
-    Ok(())
-}
-
 #[test]
 fn write_through_is_cut_at_each_limit(rt: HostRuntime) -> Result<(), Fail> {
-    cut_at_each_limit(&rt, |limit| WriteThrough::new(rt.alloc(), 3, limit))
+    cut_at_each(
+        0..13,
+        |limit| WriteThrough::new(rt.alloc(), 3, limit),
+        |device, limit| {
+            cut_and_returned(&rt, device, limit);
+            Ok(())
+        },
+    )
 }
 
 #[test]
 fn write_behind_is_cut_at_each_limit(rt: HostRuntime) -> Result<(), Fail> {
-    cut_at_each_limit(&rt, |limit| WriteBehind::new(rt.alloc(), 3, limit))
+    cut_at_each(
+        0..13,
+        |limit| WriteBehind::new(rt.alloc(), 3, limit),
+        |device, limit| {
+            cut_and_returned(&rt, device, limit);
+            Ok(())
+        },
+    )
 }
 
 // Page 1 after a write of sevens, a sync, a write of eights, and a power return.

@@ -15,6 +15,8 @@ mod grown;
 #[cfg(test)]
 mod leaves;
 #[cfg(test)]
+mod limits;
+#[cfg(test)]
 mod metas;
 #[cfg(test)]
 mod texts;

@@ -8,7 +8,8 @@ pub const HEADER: u32 = 0;
 
 pub const FIRST_DATA: u32 = 1;
 
-pub const DATA_PAGES: u32 = 3;
+// How many there are, which the header says in a byte.
+pub const DATA_PAGES: u8 = 3;
 
 // The first byte of a header.
 const MARK: u8 = 0x46;
@@ -38,12 +39,12 @@ impl fmt::Display for Held {
 fn header_page() -> Page {
     let mut page = [0; 512];
     page[0] = MARK;
-    page[1] = DATA_PAGES as u8;
+    page[1] = DATA_PAGES;
     page
 }
 
 // The text of the record on its n-th data page.
-fn data_page(n: u32) -> Page {
+fn data_page(n: u8) -> Page {
     let text: &[u8] = match n {
         0 => b"trip 1207, 2026-11-16, 08:12 to 08:40, 11.3 km",
         1 => b"base 4.00, distance 13.20, waiting 1.20",
@@ -58,7 +59,7 @@ fn data_page(n: u32) -> Page {
 // names is durable, so that power may fail on any call.
 pub fn store<D: Device>(device: &mut D) -> Result<(), DeviceFault> {
     for n in 0..DATA_PAGES {
-        device.write(FIRST_DATA + n, &data_page(n))?;
+        device.write(FIRST_DATA + u32::from(n), &data_page(n))?;
     }
     device.sync()?;
     device.write(HEADER, &header_page())?;
@@ -66,11 +67,11 @@ pub fn store<D: Device>(device: &mut D) -> Result<(), DeviceFault> {
 }
 
 // How many of the record's data pages a device holds. A `for` and no `filter` with `count`, as each read may fail.
-pub fn data_pages_held<R: Reader>(reader: &mut R) -> Result<u32, DeviceFault> {
+pub fn data_pages_held<R: Reader>(reader: &mut R) -> Result<u8, DeviceFault> {
     let mut held = 0;
     let mut buffer = [0; 512];
     for n in 0..DATA_PAGES {
-        reader.read(FIRST_DATA + n, &mut buffer)?;
+        reader.read(FIRST_DATA + u32::from(n), &mut buffer)?;
         if buffer == data_page(n) {
             held += 1;
         }

@@ -20,7 +20,8 @@ const CALLS: [&str; 8] = [
 ];
 
 fn show_cut(rt: &HostRuntime, limit: u64, name: &str) -> anyhow::Result<()> {
-    let mut device = WriteBehind::new(rt.alloc(), fare::FIRST_DATA + fare::DATA_PAGES, limit)?;
+    let pages = fare::FIRST_DATA + u32::from(fare::DATA_PAGES);
+    let mut device = WriteBehind::new(rt.alloc(), pages, limit)?;
     let answer = fare::store(&mut device).map_or_else(DeviceFault::as_str, |()| "stored");
     let mut device = device.with_limit(0);
     let held = fare::find(&mut device)?;
