@@ -84,11 +84,11 @@ impl Cell for LeafCell {
         body.len() >= Self::HEAD
             && (1..=64).contains(&body[0])
             && body[1] <= 128
-            && body.len() == Self::HEAD + body[0] as usize + body[1] as usize
+            && body.len() == Self::HEAD + usize::from(body[0]) + usize::from(body[1])
     }
 
     fn key_of(body: &[u8]) -> &[u8] {
-        &body[Self::HEAD..Self::HEAD + body[0] as usize]
+        &body[Self::HEAD..Self::HEAD + usize::from(body[0])]
     }
 
     fn allows_leftmost(child: u32) -> bool {
@@ -122,7 +122,7 @@ impl Cell for BranchCell {
         body.len() >= Self::HEAD
             && (1..=64).contains(&body[0])
             && body[1] == 0
-            && body.len() == Self::HEAD + body[0] as usize
+            && body.len() == Self::HEAD + usize::from(body[0])
     }
 
     fn key_of(body: &[u8]) -> &[u8] {

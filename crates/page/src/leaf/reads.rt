@@ -12,7 +12,7 @@ pub(crate) fn value_of(cell: &[u8]) -> &[u8]
     requires { leaf_good cell.now ≡ true }
     ensures { result.now ≡ drop (2 + slice_index cell.now 0) cell.now }
 {
-    &cell[2 + cell[0] as usize..]
+    &cell[2 + usize::from(cell[0])..]
 }
 
 impl CellPage<LeafCell> {
@@ -51,14 +51,7 @@ impl CellPage<LeafCell> {
         ensures { FindsKey (leaf_pairs self.now) key.now result }
     {
         let cells = self.cells();
-        let above = cells.place_above(key);
-        if above == 0 {
-            return None;
-        }
-        if cells.key(above - 1) == key {
-            Some(above - 1)
-        } else {
-            None
-        }
+        let i = cells.place_above(key).checked_sub(1)?;
+        (cells.key(i) == key).then_some(i)
     }
 }

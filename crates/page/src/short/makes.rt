@@ -31,7 +31,7 @@ impl Short {
         &self.bytes[0..self.len]
     }
 
-    // The cell of a leaf.
+    // The cell of a leaf. Its lengths fit a byte, by the contract.
     pub(crate) fn leaf_cell(key: &[u8], value: &[u8]) -> Self
         requires short { length key.now ≤ 64 }
         requires fits { length value.now ≤ 128 }
@@ -44,7 +44,7 @@ impl Short {
         cell
     }
 
-    // The cell of a branch.
+    // The cell of a branch. The separator's length fits a byte, by the contract.
     pub(crate) fn branch_cell(separator: &[u8], child: u32) -> Self
         requires { length separator.now ≤ 64 }
         ensures { held result ≡ branch_body (record { separator = separator.entry.now; child = child }) }
