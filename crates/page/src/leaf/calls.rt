@@ -2,12 +2,14 @@ ghost use Rattle.std.specs.Prelude.{◌≡◌, []};
 ghost use Rattle.page.specs.Growths.{PutsPair, RemovesPair, JoinsLeaves};
 ghost use Rattle.page.specs.Views.{leaf_pairs};
 
+use crate::body::Body;
 use crate::cell::LeafCell;
 use crate::cell_page::CellPage;
 use crate::draft::Draft;
 use crate::grown::Grown;
 use crate::leaf::LeafPage;
 use crate::short::Short;
+use std::marker::PhantomData;
 
 impl CellPage<LeafCell> {
     pub fn empty() -> Self
@@ -25,11 +27,15 @@ impl CellPage<LeafCell> {
             return None;
         }
         let cell = Short::leaf_cell(key, value);
+        let body = Body {
+            bytes: cell.as_slice(),
+            kind: PhantomData,
+        };
         match self.find(key) {
-            Some(i) => Some(self.with_cell(i, cell.as_slice(), i + 1)),
+            Some(i) => Some(self.with_cell(i, body, i + 1)),
             None => {
                 let at = self.above(key);
-                Some(self.with_cell(at, cell.as_slice(), at))
+                Some(self.with_cell(at, body, at))
             }
         }
     }

@@ -1,19 +1,10 @@
-ghost use Rattle.std.specs.Prelude.{◌≡◌, ◌+◌, true, drop, slice_index};
+ghost use Rattle.std.specs.Prelude.{◌≡◌};
 ghost use Rattle.std.specs.Option.{option_map};
-ghost use Rattle.page.specs.Kinds.{leaf_good};
 ghost use Rattle.page.specs.Places.{up_to};
 ghost use Rattle.page.specs.Views.{leaf_pairs, key_of, key_of_place, value_of_place, FindsKey};
 
 use crate::cell::LeafCell;
 use crate::cell_page::CellPage;
-
-// The value that a cell holds.
-pub(crate) fn value_of(cell: &[u8]) -> &[u8]
-    requires { leaf_good cell.now ≡ true }
-    ensures { result.now ≡ drop (2 + slice_index cell.now 0) cell.now }
-{
-    &cell[2 + usize::from(cell[0])..]
-}
 
 impl CellPage<LeafCell> {
     // The key of pair i, if there is one. (Not one with the separator of a branch: what both do is `Cells::key`, and their
@@ -36,7 +27,7 @@ impl CellPage<LeafCell> {
         if i >= cells.len() {
             return None;
         }
-        Some(value_of(cells.get(i)))
+        Some(cells.get(i).value())
     }
 
     // The place of the first pair with a greater key.
