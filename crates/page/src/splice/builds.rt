@@ -23,7 +23,7 @@ impl<C: Cell> Splice<'_, C> {
     {
         let mut draft = Draft::<C>::new(leftmost);
         for i in from..to {
-            draft.push(self.get(i).bytes);
+            draft.push(self.get(i));
         }
         draft.finish()
     }
