@@ -24,3 +24,4 @@ pub mod BranchOrders
 pub mod BranchLists
 pub mod BranchSteps
 pub mod LeafJoins
+pub mod Lengths

@@ -2,7 +2,7 @@ ghost use Rattle.page.specs.Growths.{PutsChild, InsertsChild, MergesChildren, Re
 
 use crate::body::Body;
 use crate::branch::BranchPage;
-use crate::cell::BranchCell;
+use crate::cell::{BranchCell, is_key_len};
 use crate::cell_page::CellPage;
 use crate::draft::Draft;
 use crate::grown::Grown;
@@ -72,9 +72,9 @@ impl CellPage<BranchCell> {
     pub fn root(left: u32, separator: &[u8], right: u32) -> Option<BranchPage>
         ensures { MakesRoot left separator.now right result }
     {
-        let 1..=64 = separator.len() else {
+        if !is_key_len(separator.len()) {
             return None;
-        };
+        }
         let cell = Short::branch_cell(separator, right);
         let mut draft = Draft::<BranchCell>::new(left);
         draft.push(Body {

@@ -12,7 +12,7 @@ ghost use Rattle.page.specs.Views.{branch_node};
 
 use crate::body::Body;
 use crate::branch::BranchPage;
-use crate::cell::BranchCell;
+use crate::cell::{BranchCell, is_key_len};
 use crate::cell_page::CellPage;
 use crate::grown::Grown;
 use crate::short::Short;
@@ -130,9 +130,9 @@ impl CellPage<BranchCell> {
         requires few { cost_around self.now keep back.now skip ≤ 619 }
         ensures { GrowsTo separator.now (around self.now keep (cell separator.now child) back.now skip) result }
     {
-        let 1..=64 = separator.len() else {
+        if !is_key_len(separator.len()) {
             return None;
-        };
+        }
         if !self.ends_below(keep, separator) {
             return None;
         }

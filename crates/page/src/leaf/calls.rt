@@ -3,7 +3,7 @@ ghost use Rattle.page.specs.Growths.{PutsPair, RemovesPair, JoinsLeaves};
 ghost use Rattle.page.specs.Views.{leaf_pairs};
 
 use crate::body::Body;
-use crate::cell::LeafCell;
+use crate::cell::{LeafCell, is_key_len};
 use crate::cell_page::CellPage;
 use crate::draft::Draft;
 use crate::grown::Grown;
@@ -23,7 +23,7 @@ impl CellPage<LeafCell> {
     pub fn put(&self, key: &[u8], value: &[u8]) -> Option<Grown<LeafPage>>
         ensures { PutsPair self.now key.now value.now result }
     {
-        if key.len() < 1 || key.len() > 64 || value.len() > 128 {
+        if !is_key_len(key.len()) || value.len() > 128 {
             return None;
         }
         let cell = Short::leaf_cell(key, value);

@@ -10,6 +10,7 @@ use Rattle.page.proofs.Children.{page_parts}
 use Rattle.page.proofs.Finds.{up_to_pairs}
 use Rattle.page.proofs.Places.{up_to_length}
 use Rattle.page.proofs.Puts.{pair_back, rising_pairs, put_old, put_new}
+use Rattle.page.proofs.Lengths.{tested_key}
 use Rattle.page.proofs.leaf.calls.CellPage+LeafCell.put.Goals as goal
 
 -- the cell of the pair that is put
@@ -56,7 +57,7 @@ returns-in-Some c =
     let v = c.args.value.now in
     let e = c.as_slice.ensures ∙ c.leaf_cell-cell.ensures in
     let r = rising_pairs (cells_of c.args.self.now.bytes) (page_parts leaf_rules c.args.self.now.bytes c.args.self.now.sound).2 in (
-      (omega arith, omega arith),
+      tested_key k c.if-not-is_key_len.ensures,
       omega arith,
       c.with_cell.ensures ∙ ap fitted (put_old k v ps c.in-Some.i _ r c.in-Some.ensures (cell_pair k v _ e)),
     )
@@ -67,7 +68,7 @@ returns-in-None c =
     let k = c.args.key.now in
     let v = c.args.value.now in
     let e = c.as_slice.ensures ∙ c.leaf_cell-cell.ensures in (
-      (omega arith, omega arith),
+      tested_key k c.if-not-is_key_len.ensures,
       omega arith,
       c.with_cell-in-None.ensures ∙ ap fitted (put_new k v ps c.above-at.result _ c.in-None.ensures c.above-at.ensures (cell_pair k v _ e)),
     )
