@@ -4,7 +4,7 @@ ghost use Rattle.cuts.specs.Nodes.{cell_cost};
 ghost use Rattle.tree.specs.Places.{separator_at};
 ghost use Rattle.tree.specs.Trees.{branch, cell};
 ghost use Rattle.page.specs.Branches.{CutsBranch, ascending, ends_below, starts_above};
-ghost use Rattle.page.specs.Growths.{around, cost_around, branch_grown, fitted_branch, GrowsTo};
+ghost use Rattle.page.specs.Growths.{around, branch_grown, fitted_branch, GrowsTo, TwoEnds};
 ghost use Rattle.page.specs.Kinds.{branch_key, cell_of};
 ghost use Rattle.page.specs.Layout.{cost};
 ghost use Rattle.page.specs.Lists.{cells_in};
@@ -89,10 +89,8 @@ impl CellPage<BranchCell> {
         back: &'a BranchPage,
         skip: usize,
     ) -> Grown<BranchPage>
-        requires keep { keep ≤ length (branch_node self.now).rest }
-        requires skip { skip ≤ length (branch_node back.now).rest }
+        requires ends { TwoEnds self.now keep back.now skip }
         requires rises { ascending (around self.now keep (cell_of cell.bytes.now) back.now skip).rest ≡ true }
-        requires few { cost_around self.now keep back.now skip ≤ 619 }
         ensures { branch_grown result ≡ fitted_branch (around self.now keep (cell_of cell.entry.bytes.now) back.now skip) }
     {
         let leftmost = self.cells().leftmost();
@@ -116,7 +114,8 @@ impl CellPage<BranchCell> {
     }
 
     // The first cells of this branch, a cell of this separator and child, and the last cells of a branch; none, if
-    // that cannot be a separator there.
+    // that cannot be a separator there. (What is kept is said by `keep`, `back` and `skip` down to the splice, which is the
+    // struct of them: it can be made only once its keys are known to rise.)
     pub(crate) fn placed(
         &self,
         keep: usize,
@@ -125,9 +124,7 @@ impl CellPage<BranchCell> {
         back: &BranchPage,
         skip: usize,
     ) -> Option<Grown<BranchPage>>
-        requires keep { keep ≤ length (branch_node self.now).rest }
-        requires skip { skip ≤ length (branch_node back.now).rest }
-        requires few { cost_around self.now keep back.now skip ≤ 619 }
+        requires { TwoEnds self.now keep back.now skip }
         ensures { GrowsTo separator.now (around self.now keep (cell separator.now child) back.now skip) result }
     {
         if !is_key_len(separator.len()) {

@@ -19,7 +19,7 @@ impl CellPage<LeafCell> {
     }
 
     // The leaf with this pair in it: one page, or two; none, if the key has not 1 to 64 bytes, or the value more
-    // than 128.
+    // than 128. (One none for both, and so in the other edits: no caller tells apart why an edit may not be done.)
     pub fn put(&self, key: &[u8], value: &[u8]) -> Option<Grown<LeafPage>>
         ensures { PutsPair self.now key.now value.now result }
     {

@@ -43,10 +43,8 @@ with_new-requires c =
     let e : c.as_slice.result.now ≡ branch_body (cell s x) = c.as_slice.ensures ∙ c.branch_cell-cell.ensures in
     let r = sorted_from (cells_of a) (cells_of b) (branch_bytes_lem a sa).rises (branch_bytes_lem b sb).rises k m s x (sym c.if-not-ends_below.ensures) (sym c.if-not-starts_above.ensures) in
     record {
-      keep = c.requires.keep;
-      skip = c.requires.skip;
+      ends = c.requires;
       rises = ap (λ d. ascending (take k (map cell_of (cells_of a)) ++ d ∷ drop m (map cell_of (cells_of b)))) (ap cell_of e ∙ cell_body s x l) ∙ r;
-      few = c.requires.few;
     }
 
 pub returns : goal.returns

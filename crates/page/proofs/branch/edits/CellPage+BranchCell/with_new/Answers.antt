@@ -19,8 +19,8 @@ splice-requires c =
     let m = c.args.skip in
     let d = c.args.cell.bytes.now in
     record {
-      keep = omega (arith, length-map xs cell_of, c.requires.keep);
-      skip = omega (arith, length-map ys cell_of, c.requires.skip);
+      keep = omega (arith, length-map xs cell_of, c.requires.ends.keep);
+      skip = omega (arith, length-map ys cell_of, c.requires.ends.skip);
       rises = rising_ascending (take k xs ++ d ∷ drop m ys) ∙ (ap ascending (with_cells xs ys k m d) ∙ c.requires.rises);
     }
 
@@ -37,7 +37,7 @@ branches-requires c =
       with_cost xs ys c.args.keep c.args.skip d,
       cost_take_cells xs c.args.keep p,
       cost_drop_cells ys c.args.skip q,
-      c.requires.few,
+      c.requires.ends.few,
       body_small d c.args.cell.good,
     )
 
