@@ -264,5 +264,5 @@ const TABLE: [u32; 256] = [
 pub(crate) fn entry(byte: u8) -> u32
     ensures { result ≡ steps 8 byte }
 {
-    TABLE[byte as usize]
+    TABLE[usize::from(byte)]
 }

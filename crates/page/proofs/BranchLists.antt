@@ -25,7 +25,7 @@ use Rattle.page.proofs.Tested.{every_append, every_at}
 pub body_good : (s : List ℕ) (x : ℕ) → KeyFits s → branch_good (branch_body (cell s x)) ≡ true
 body_good s x h =
     and_from _ _ (le-leb 6 (length (branch_body (cell s x))) (omega arith))
-    (and_from _ _ (le-leb 1 (length s) h.0) (and_from _ _ (le-leb (length s) 64 h.1) (and_from _ _ (eq-eqb 0 0 refl) (eq-eqb _ _ (omega arith)))))
+    (and_from _ _ (and_from _ _ (le-leb _ _ h.0) (le-leb _ _ h.1)) (and_from _ _ (eq-eqb 0 0 refl) (eq-eqb _ _ (omega arith))))
 
 pub cell_body : (s : List ℕ) (x : ℕ) → x < 2 ^ 32 → cell_of (branch_body (cell s x)) ≡ cell s x
 unfolding word32

@@ -7,7 +7,7 @@ use Rattle.tree.specs.Trees.{cell, branch}
 use Rattle.tree.specs.Edits as tree
 use Rattle.tree.specs.Places.{separator_at, splice}
 use Rattle.page.specs.Branches.{BranchBytes}
-use Rattle.page.specs.Growths.{GrowsTo, spliced, spliced_two, InsertsChild, ReplacesChildren}
+use Rattle.page.specs.Growths.{GrowsTo, TwoEnds, spliced, spliced_two, InsertsChild, ReplacesChildren}
 use Rattle.page.specs.Kinds.{branch_good, cell_of}
 use Rattle.page.specs.Layout.{cost, cells_of, left_of}
 use Rattle.page.specs.Views.{branch_node}
@@ -15,6 +15,7 @@ use Rattle.page.specs.CellPages.{BranchPage}
 use Rattle.page.specs.declared.grown.Grown.{Grown}
 use Rattle.page.proofs.BranchLists.{splice_later, splice_length, splice_two_lem, replace_two, merge_one, add_cell, set_cell, drop_cell, cost_take_cells, cost_drop_cells, cost_joined}
 use Rattle.page.specs.Goods.{branch_costs}
+use Rattle.page.proofs.Children.{branch_bytes_lem}
 use Rattle.page.proofs.Items.{items_cost}
 use Rattle.page.proofs.Pages.{cost_append}
 
@@ -41,6 +42,13 @@ pub cells_few : (b : List ℕ) (k m : ℕ) → BranchBytes b → k ≤ m → tot
 cells_few b k m p h =
     let xs = cells_of b in
     omega (arith, cost_take_cells xs k p.goods, cost_drop_cells xs m p.goods, cost_joined xs k m h, cost_append (take k xs) (drop m xs), p.laid.room)
+
+-- so its cells are few enough for one more among them, or in place of one
+pub base_ends : (p q : BranchPage) (i m x : ℕ) → branch_node q ≡ spliced p i (tree.one x) → i ≤ m → m ≤ length (branch_node p).rest → TwoEnds q i q m
+base_ends p q i m x e h l =
+    let n = base_length p q i x e in
+    let c = q.sound in
+    record { keep = omega (arith, n, h, l); skip = omega (arith, n, l); few = omega (arith, cells_few q.bytes i m (branch_bytes_lem q.bytes c) h) }
 
 pub cells_cost : (b : List ℕ) → BranchBytes b → total cell_cost (map cell_of (cells_of b)) ≡ cost (cells_of b)
 cells_cost b p = items_cost cell_of cell_cost branch_good branch_costs (cells_of b) p.goods

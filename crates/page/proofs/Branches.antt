@@ -1,9 +1,9 @@
 -- The cells of a branch, and a branch's list as one node or two.
 use Rattle.std.proofs.Common.{◌≡◌, ℕ, ◌+◌, ◌<◌, ◌≤◌, true, cond, List, [], ◌∷◌, map, length, get_or, take, drop, sym, refl, ap, ◌∙◌, add-one, arith}
-use Rattle.std.specs.List.{between, AllByRecursion}
+use Rattle.std.specs.List.{between}
 use Rattle.std.proofs.lemmas.List.{length-drop, length-map, drop_more}
 use Rattle.std.proofs.lemmas.Slice.{between_to_end}
-use Rattle.std.proofs.lemmas.Bool.{and_parts, le-leb, lt-leb}
+use Rattle.std.proofs.lemmas.Bool.{le-leb, lt-leb}
 use Rattle.cuts.specs.Cuts.{total, middle}
 use Rattle.cuts.specs.Keys.{KeyFits}
 use Rattle.cuts.specs.Laws.{BranchPartsFit}
@@ -20,7 +20,7 @@ use Rattle.page.specs.Reading.{every}
 use Rattle.page.specs.Splices.{body_cost}
 use Rattle.checksum.specs.Bytes.{word32}
 use Rattle.page.proofs.Cuts.{cost_total}
-use Rattle.page.proofs.Items.{items_cost}
+use Rattle.page.proofs.Items.{items_cost, all_small}
 use Rattle.page.proofs.Pages.{front_is, back_is}
 use Rattle.page.proofs.Parts.{map_drop}
 
@@ -39,15 +39,11 @@ key_fits b h =
     let p = branch_parts_of b h in
     (omega (arith, key_length b h, p.some), omega (arith, key_length b h, p.short))
 
-small_cells : (xs : List (List ℕ)) → every branch_good xs ≡ true → AllByRecursion (λ (b : List ℕ). body_cost b ≤ 72) xs
-small_cells [] h = tt
-small_cells (x ∷ xs) h = let p = and_parts _ _ h in let q = branch_parts_of x p.0 in (omega (arith, q.long, q.short), small_cells xs p.1)
-
 -- the cut of an overfull list
 pub cut_fits : (xs : List (List ℕ)) (i : ℕ) → every branch_good xs ≡ true → 496 < cost xs → cost xs ≤ 691 → i ≡ middle body_cost (total body_cost xs) 0 xs → CutsBranch xs i
 cut_fits xs i g h l e =
     let c = cost_total xs in
-    let p : BranchPartsFit body_cost 496 xs i = rw e (branch_parts body_cost 496 72 xs (small_cells xs g) (omega arith) (omega arith) (omega arith)) in
+    let p : BranchPartsFit body_cost 496 xs i = rw e (branch_parts body_cost 496 72 xs (all_small branch_good 72 (λ b h. omega (arith, body_small b h)) xs g) (omega arith) (omega arith) (omega arith)) in
     let a = p.1 in
     let b = p.2 in
     record {

@@ -1,7 +1,8 @@
 -- Keys among the pairs of a leaf.
-use Rattle.std.proofs.Common.{◌≡◌, ℕ, zero, suc, ◌+◌, ◌-◌, ◌<◌, ◌≤◌, true, cond, List, [], ◌∷◌, map, length, get_or, drop, Some, None, sym, refl, ap, ◌∙◌, ⊎_elim, arith}
+use Rattle.std.proofs.Common.{◌≡◌, ℕ, zero, suc, ◌+◌, ◌-◌, ◌<◌, ◌≤◌, Bool, true, false, cond, List, [], ◌∷◌, map, length, get_or, drop, Some, None, sym, refl, ap, ◌∙◌, ⊎_elim, arith, Decides}
 use Rattle.std.proofs.lemmas.List.{length-map}
-use Rattle.std.proofs.lemmas.Bool.{cases_lt, both_ways, lt-ltb}
+use Rattle.std.specs.Bool.{then_some}
+use Rattle.std.proofs.lemmas.Bool.{false≢true, cases_lt, both_ways, lt-ltb}
 use Rattle.cuts.specs.Keys.{key<}
 use Rattle.cuts.proofs.Order.{less_self}
 use Rattle.page.specs.Kinds.{leaf_key, pair_of}
@@ -34,32 +35,38 @@ module _ (xs : List (List ℕ)) (i : ℕ) (s : List ℕ) (h : i < length (map pa
   value_some e =
       ap Some (e ∙ sym (value_at_lem xs i (omega (arith, length-map xs pair_of)))) ∙ sym (ap (λ t. cond t (Some (value_at (map pair_of xs) i)) None) (lt-ltb _ _ h))
 
-module _ (k : List ℕ) (xs : List (List ℕ)) (asc : rising leaf_key xs ≡ true) where
-  pub found : (a : ℕ) → a ≡ up_to leaf_key k xs → (a ≡ 0 → ⊥) → leaf_key (get_or xs (a - 1) []) ≡ k → FindsKey (map pair_of xs) k (Some (a - 1))
-  found a e n h =
-      let l : a - 1 < length xs = omega (arith, up_to_length leaf_key k xs) in
-      (omega (arith, length-map xs pair_of), key_at_lem xs (a - 1) l ∙ h)
-
-  above_differs : (a j : ℕ) → a ≡ up_to leaf_key k xs → a ≤ j → j < length xs → leaf_key (get_or xs j []) ≡ k → ⊥
-  above_differs a j e l h q =
+module _ (k : List ℕ) (xs : List (List ℕ)) (asc : rising leaf_key xs ≡ true) (a : ℕ) (e : a ≡ up_to leaf_key k xs) where
+  above_differs : (j : ℕ) → a ≤ j → j < length xs → leaf_key (get_or xs j []) ≡ k → ⊥
+  above_differs j l h q =
       let t : key< k (leaf_key (get_or xs a [])) ≡ true = ap (λ n. key< k (leaf_key (get_or xs n []))) e ∙ up_to_at leaf_key k xs (omega arith) in
       both_ways (key< k k) (less_self k) (ap (key< k) (sym q) ∙ back_above leaf_key k xs asc a (omega arith) t j l h)
 
-  below_differs : (a j : ℕ) → a ≡ up_to leaf_key k xs → j < a → (leaf_key (get_or xs (a - 1) []) ≡ k → ⊥) → leaf_key (get_or xs j []) ≡ k → ⊥
-  below_differs a j e l n q =
-      ⊎_elim
-      (λ lt. both_ways (key< k (leaf_key (get_or xs (a - 1) []))) (up_to_front leaf_key k xs (a - 1) (omega arith))
-      (ap (λ z. key< z (leaf_key (get_or xs (a - 1) []))) (sym q) ∙ rises leaf_key xs j (a - 1) asc lt (omega (arith, up_to_length leaf_key k xs))))
-      (λ le. let m : j ≡ a - 1 = omega arith in n (ap (λ i. leaf_key (get_or xs i [])) (sym m) ∙ q))
-      (cases_lt j (a - 1))
-
-  pub none_found : (a : ℕ) → a ≡ up_to leaf_key k xs → a ≡ 0 → FindsKey (map pair_of xs) k None
-  none_found a e z j l q =
+  pub none_found : (1 ≤ a → ⊥) → FindsKey (map pair_of xs) k None
+  none_found z j l q =
       let h : j < length xs = omega (arith, length-map xs pair_of) in
-      above_differs a j e (omega arith) h (sym (key_at_lem xs j h) ∙ q)
+      above_differs j (omega arith) h (sym (key_at_lem xs j h) ∙ q)
 
-  pub missing : (a : ℕ) → a ≡ up_to leaf_key k xs → (leaf_key (get_or xs (a - 1) []) ≡ k → ⊥) → FindsKey (map pair_of xs) k None
-  missing a e n j l q =
-      let h : j < length xs = omega (arith, length-map xs pair_of) in
-      let r = sym (key_at_lem xs j h) ∙ q in
-      ⊎_elim (λ lt. below_differs a j e lt n r) (λ le. above_differs a j e le h r) (cases_lt j a)
+  -- the last key that is at most the one sought
+  module _ (i : ℕ) (s : 1 ≤ a) (p : i ≡ a - 1) where
+    found : leaf_key (get_or xs i []) ≡ k → FindsKey (map pair_of xs) k (Some i)
+    found h =
+        let l : i < length xs = omega (arith, up_to_length leaf_key k xs) in
+        (omega (arith, length-map xs pair_of), key_at_lem xs i l ∙ h)
+
+    below_differs : (j : ℕ) → j < a → (leaf_key (get_or xs i []) ≡ k → ⊥) → leaf_key (get_or xs j []) ≡ k → ⊥
+    below_differs j l n q =
+        ⊎_elim
+        (λ lt. both_ways (key< k (leaf_key (get_or xs i []))) (up_to_front leaf_key k xs i (omega arith))
+        (ap (λ z. key< z (leaf_key (get_or xs i []))) (sym q) ∙ rises leaf_key xs j i asc lt (omega (arith, up_to_length leaf_key k xs))))
+        (λ le. let m : j ≡ i = omega arith in n (ap (λ n. leaf_key (get_or xs n [])) (sym m) ∙ q))
+        (cases_lt j i)
+
+    missing : (leaf_key (get_or xs i []) ≡ k → ⊥) → FindsKey (map pair_of xs) k None
+    missing n j l q =
+        let h : j < length xs = omega (arith, length-map xs pair_of) in
+        let r = sym (key_at_lem xs j h) ∙ q in
+        ⊎_elim (λ lt. below_differs j lt n r) (λ le. above_differs j le h r) (cases_lt j a)
+
+    pub found_if : (b : Bool) → Decides b (leaf_key (get_or xs i []) ≡ k) → FindsKey (map pair_of xs) k (then_some b i)
+    found_if true d = found (d.0 refl)
+    found_if false d = missing (λ q. false≢true (d.1 q))

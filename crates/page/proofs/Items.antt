@@ -1,5 +1,6 @@
 -- Cells as what they say, for any kind.
-use Rattle.std.proofs.Common.{◌≡◌, ℕ, suc, ◌+◌, ◌*◌, true, Bool, cond, ltb, List, [], ◌∷◌, map, length, sym, refl, ap, ◌∙◌, arith}
+use Rattle.std.proofs.Common.{◌≡◌, ℕ, suc, ◌+◌, ◌*◌, ◌≤◌, true, Bool, cond, ltb, List, [], ◌∷◌, map, length, sym, refl, ap, ◌∙◌, arith}
+use Rattle.std.specs.List.{AllByRecursion}
 use Rattle.std.proofs.lemmas.Bool.{and_parts}
 use Rattle.cuts.specs.Cuts.{total, fair, middle}
 use Rattle.page.specs.Layout.{cost}
@@ -39,3 +40,9 @@ module _ {X : Type 0} (item : List ℕ → X) (f : X → ℕ) (good : List ℕ �
       let r = middle_items t (a + body_cost x) xs p.1 in
       ap (λ n. cond (ltb t (2 * (a + n))) 0 (suc (middle f t (a + n) (map item xs)))) c
       ∙ ap (λ n. cond (ltb t (2 * (a + body_cost x))) 0 (suc n)) r
+
+-- cells that are good cost no more than the largest
+pub all_small : (good : List ℕ → Bool) (most : ℕ) → ((b : List ℕ) → good b ≡ true → body_cost b ≤ most) → (xs : List (List ℕ)) → every good xs ≡ true
+    → AllByRecursion (λ (b : List ℕ). body_cost b ≤ most) xs
+all_small good most small [] h = tt
+all_small good most small (x ∷ xs) h = let p = and_parts _ _ h in (small x p.0, all_small good most small xs p.1)

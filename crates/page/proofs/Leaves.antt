@@ -1,24 +1,20 @@
 -- The cells of a leaf as pairs.
 use Rattle.std.proofs.Common.{◌≡◌, ℕ, ◌+◌, ◌-◌, ◌<◌, ◌≤◌, true, List, [], ◌∷◌, ◌++◌, map, length, get_or, take, drop, sym, refl, ap, ◌∙◌, ⊎_elim, arith}
-use Rattle.std.specs.List.{AllByRecursion}
 use Rattle.std.proofs.lemmas.List.{length-take-le, length-drop, drop_more, map_more}
-use Rattle.std.proofs.lemmas.Bool.{and_parts, cases_lt}
+use Rattle.std.proofs.lemmas.Bool.{cases_lt}
 use Rattle.cuts.specs.Cuts.{total, fair}
 use Rattle.cuts.specs.Nodes.{Pair}
 use Rattle.cuts.proofs.Balance.{leaf_parts}
 use Rattle.cuts.specs.Laws.{LeafPartsFit}
 use Rattle.tree.specs.Edits.{first_key, last_key}
-use Rattle.page.specs.Goods.{leaf_parts_of}
+use Rattle.page.specs.Goods.{leaf_parts_of, leaf_small}
 use Rattle.page.specs.Kinds.{leaf_good, leaf_key, pair_of}
 use Rattle.page.specs.Layout.{cost}
 use Rattle.page.specs.Reading.{every}
 use Rattle.page.specs.Splices.{body_cost, CutsLeaf}
+use Rattle.page.proofs.Items.{all_small}
 use Rattle.page.proofs.Pages.{front_is, back_is}
 use Rattle.page.proofs.Cuts.{cost_total, total_end}
-
-small_cells : (xs : List (List ℕ)) → every leaf_good xs ≡ true → AllByRecursion (λ (b : List ℕ). body_cost b ≤ 196) xs
-small_cells [] h = tt
-small_cells (x ∷ xs) h = let p = and_parts _ _ h in let q = leaf_parts_of x p.0 in (omega (arith, q.long, q.key, q.value), small_cells xs p.1)
 
 total_at_zero : (xs : List (List ℕ)) (i : ℕ) → i ≡ 0 → total body_cost (take i xs) ≡ 0
 unfolding total
@@ -28,7 +24,7 @@ total_at_zero xs i e = ap (λ n. total body_cost (take n xs)) e
 pub cut_fits : (xs : List (List ℕ)) (i : ℕ) → every leaf_good xs ≡ true → 496 < cost xs → cost xs ≤ 692 → i ≡ fair body_cost 0 xs → CutsLeaf xs i
 cut_fits xs i g h l e =
     let c = cost_total xs in
-    let p : LeafPartsFit body_cost 496 xs i = rw e (leaf_parts body_cost 496 196 xs (small_cells xs g) (omega arith) (omega arith)) in
+    let p : LeafPartsFit body_cost 496 xs i = rw e (leaf_parts body_cost 496 196 xs (all_small leaf_good 196 leaf_small xs g) (omega arith) (omega arith)) in
     let a = p.0 in
     let b = p.1 in
     record {

@@ -25,3 +25,4 @@ pub mod BranchLists
 pub mod BranchSteps
 pub mod LeafJoins
 pub mod Keys
+pub mod Lengths

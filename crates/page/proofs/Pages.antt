@@ -224,6 +224,11 @@ cell_in_lem {bytes = bytes} {cells = cells} i s h =
     let t = cell_is i s h in
     cc
 
+pub cell_between : {k : ℕ} {bytes : List ℕ} {l q : ℕ} {cells : List (List ℕ)} (i end from : ℕ) → Shows k bytes l q cells → i < length cells
+    → end ≡ edge_at bytes i → from ≡ edge_at bytes (i + 1) → take (end - from) (drop from bytes) ≡ get_or cells i []
+unfolding cell_in
+cell_between i end from s h e f = let t = cell_in_lem i s h in cc
+
 pub cells_are : {k : ℕ} {bytes : List ℕ} {l q : ℕ} {cells : List (List ℕ)} → Shows k bytes l q cells → cells_of bytes ≡ cells
 unfolding cells_of
 cells_are {bytes = bytes} {cells = cells} s =

@@ -46,7 +46,7 @@ pub good_body : (p : Pair) → KeyFits p.key → length p.value ≤ 128 → leaf
 good_body p k v =
     let a = k.0 in
     let b = k.1 in
-    and_from _ _ (le-leb _ _ (omega arith)) (and_from _ _ (le-leb _ _ a) (and_from _ _ (le-leb _ _ b) (and_from _ _ (le-leb _ _ v) (eq-eqb _ _ (omega (arith, length-append p.key p.value))))))
+    and_from _ _ (le-leb _ _ (omega arith)) (and_from _ _ (and_from _ _ (le-leb _ _ a) (le-leb _ _ b)) (and_from _ _ (le-leb _ _ v) (eq-eqb _ _ (omega (arith, length-append p.key p.value)))))
 
 pub cells_as_pairs : (xs m : List (List ℕ)) (ps : List Pair) (keep skip : ℕ) → map pair_of m ≡ ps
     → map pair_of (take keep xs ++ (m ++ drop skip xs)) ≡ take keep (map pair_of xs) ++ (ps ++ drop skip (map pair_of xs))

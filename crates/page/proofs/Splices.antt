@@ -1,23 +1,30 @@
 -- Lists of cells in parts: the first of one page, perhaps a loose one, the last of a page.
-use Rattle.std.proofs.Common.{◌≡◌, ℕ, ◌+◌, ◌-◌, ◌<◌, ◌≤◌, true, List, [], ◌∷◌, ◌++◌, length, get_or, take, drop, Option, Some, None, sym, ap, ◌∙◌, arith, Bor}
+use Rattle.std.proofs.Common.{◌≡◌, ℕ, ◌+◌, ◌-◌, ◌<◌, ◌≤◌, true, List, [], ◌∷◌, ◌++◌, length, get_or, take, drop, Option, Some, None, sym, refl, ap, ◌∙◌, arith}
 use Rattle.std.specs.List.{between}
 use Rattle.std.proofs.lemmas.List.{length-append, length-take-le, length-drop, get_or_append_left, get_or-append_right, get_or-take, get_or-drop}
+use Rattle.std.proofs.lemmas.Bool.{and_from}
 use Rattle.page.specs.Layout.{cost, cells_of}
 use Rattle.page.specs.Lists.{cells_in}
 use Rattle.page.specs.Kinds.{Rules}
 use Rattle.page.specs.Reading.{every}
 use Rattle.page.specs.Splices.{loose, parts, Spliced}
+use Rattle.page.specs.declared.body.Body.{Body}
 use Rattle.page.specs.declared.cell.Cell.{Ghosts}
 use Rattle.page.specs.declared.splice.Splice.{Splice}
 use Rattle.page.proofs.Pages.{cost_append, front_is, back_is}
 use Rattle.page.proofs.Parts.{every_take, every_drop}
 use Rattle.page.proofs.Tested.{every_append}
 
-pub one_loose : (o : Option (Bor (List ℕ))) (x : Bor (List ℕ)) → o ≡ Some x → loose o ≡ x.now ∷ []
-one_loose o x e = ap loose e
+module _ {C : Type 0} {g : Ghosts C} where
+  pub one_loose : (o : Option (Body C g)) (x : Body C g) → o ≡ Some x → loose o ≡ x.bytes.now ∷ []
+  one_loose o x e = ap loose e
 
-pub no_loose : (o : Option (Bor (List ℕ))) → o ≡ None → loose o ≡ []
-no_loose o e = ap loose e
+  pub no_loose : (o : Option (Body C g)) → o ≡ None → loose o ≡ []
+  no_loose o e = ap loose e
+
+  loose_good : (o : Option (Body C g)) → every g.rules.good (loose o) ≡ true
+  loose_good None = refl
+  loose_good (Some b) = and_from _ _ b.good refl
 
 pub length_same : {a x : List ℕ} → a ≡ x → length (cells_of a) ≡ length (cells_of x)
 length_same {a} {x} e = ap (λ z. length (cells_of z)) e
@@ -26,10 +33,10 @@ module _ (k : Rules) (a : List ℕ) (keep : ℕ) (m : List (List ℕ)) (b : List
   front_length : length (take keep (cells_of a)) ≡ keep
   front_length = length-take-le keep (cells_of a) p.keep
 
-  pub goods_spliced : every k.good (cells_of a) ≡ true → every k.good (cells_of b) ≡ true → every k.good (parts a keep m b skip) ≡ true
-  goods_spliced x y =
+  goods_spliced : every k.good (cells_of a) ≡ true → every k.good m ≡ true → every k.good (cells_of b) ≡ true → every k.good (parts a keep m b skip) ≡ true
+  goods_spliced x z y =
       every_append k.good (take keep (cells_of a)) (m ++ drop skip (cells_of b)) (every_take k.good keep (cells_of a) x)
-      (every_append k.good m (drop skip (cells_of b)) p.good (every_drop k.good skip (cells_of b) y))
+      (every_append k.good m (drop skip (cells_of b)) z (every_drop k.good skip (cells_of b) y))
 
   pub length_spliced : length (parts a keep m b skip) ≡ keep + length m + (length (cells_of b) - skip)
   length_spliced =
@@ -61,4 +68,4 @@ module _ (k : Rules) (a : List ℕ) (keep : ℕ) (m : List (List ℕ)) (b : List
 
 -- each cell of a list is good
 pub list_good : {C : Type 0} {g : Ghosts C} (s : Splice C g) → every g.rules.good (cells_in s) ≡ true
-list_good {C} {g} s = goods_spliced g.rules _ _ _ _ _ s.spliced s.front.goods s.back.goods
+list_good {C} {g} s = goods_spliced g.rules _ _ _ _ _ s.spliced s.front.goods (loose_good s.middle) s.back.goods

@@ -15,9 +15,9 @@ pub leaf_parts_of : (b : List ℕ) → leaf_good b ≡ true → CellParts b
 leaf_parts_of b h =
     let p = and_parts _ _ h in
     let q = and_parts _ _ p.1 in
-    let r = and_parts _ _ q.1 in
-    let s = and_parts _ _ r.1 in
-    record { some = leb-true _ _ q.0; key = leb-true _ _ r.0; value = leb-true _ _ s.0; long = eqb-true _ _ s.1 }
+    let r = and_parts _ _ q.0 in
+    let s = and_parts _ _ q.1 in
+    record { some = leb-true _ _ r.0; key = leb-true _ _ r.1; value = leb-true _ _ s.0; long = eqb-true _ _ s.1 }
 
 pub leaf_costs : (b : List ℕ) → leaf_good b ≡ true → pair_cost (pair_of b) ≡ 2 + length b
 leaf_costs b h =
@@ -36,9 +36,9 @@ pub branch_parts_of : (b : List ℕ) → branch_good b ≡ true → BranchParts 
 branch_parts_of b h =
     let p = and_parts _ _ h in
     let q = and_parts _ _ p.1 in
-    let r = and_parts _ _ q.1 in
-    let s = and_parts _ _ r.1 in
-    record { some = leb-true _ _ q.0; short = leb-true _ _ r.0; long = eqb-true _ _ s.1 }
+    let r = and_parts _ _ q.0 in
+    let s = and_parts _ _ q.1 in
+    record { some = leb-true _ _ r.0; short = leb-true _ _ r.1; long = eqb-true _ _ s.1 }
 
 pub branch_costs : (b : List ℕ) → branch_good b ≡ true → cell_cost (cell_of b) ≡ 2 + length b
 branch_costs b h = let p = branch_parts_of b h in omega (arith, length-drop 6 b, p.long)

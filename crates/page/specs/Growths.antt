@@ -48,6 +48,12 @@ around p k c q m = branch (branch_node p).first (take k (branch_node p).rest ++ 
 abbrev pub cost_around : BranchPage → ℕ → BranchPage → ℕ → ℕ
 cost_around p k q m = total cell_cost (take k (branch_node p).rest) + total cell_cost (drop m (branch_node q).rest)
 
+-- the branches have so many cells, and what is kept of them costs so little that with one cell more it fits two pages
+pub record TwoEnds (p : BranchPage) (k : ℕ) (q : BranchPage) (m : ℕ) : Type 0 where
+  pub keep : k ≤ length (branch_node p).rest
+  pub skip : m ≤ length (branch_node q).rest
+  pub few : cost_around p k q m ≤ 619
+
 -- g in place of child i of a branch, and in place of that child and the next
 abbrev pub spliced : BranchPage → ℕ → tree.Grown ℕ → Branch ℕ
 spliced p i g = splice i g (branch_node p).first (branch_node p).rest

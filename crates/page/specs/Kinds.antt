@@ -13,13 +13,17 @@ pub record Rules : Type 0 where
   pub key : List ℕ → List ℕ
   pub leftmost : ℕ → Bool
 
+-- a key or a separator may have so many bytes
+abbrev pub is_key_length : ℕ → Bool
+is_key_length n = nat_le 1 n && nat_le n 64
+
 -- A leaf cell is the key's length, the value's length, the key, the value.
 abbrev pub leaf_body : Pair → List ℕ
 leaf_body p = length p.key ∷ length p.value ∷ (p.key ++ p.value)
 
 abbrev pub leaf_good : List ℕ → Bool
 leaf_good b =
-    nat_le 2 (length b) && (nat_le 1 (slice_index b 0) && (nat_le (slice_index b 0) 64 && (nat_le (slice_index b 1) 128 && length b == 2 + slice_index b 0 + slice_index b 1)))
+    nat_le 2 (length b) && (is_key_length (slice_index b 0) && (nat_le (slice_index b 1) 128 && length b == 2 + slice_index b 0 + slice_index b 1))
 
 abbrev pub leaf_key : List ℕ → List ℕ
 leaf_key b = take (slice_index b 0) (drop 2 b)
@@ -33,7 +37,7 @@ branch_body c = length c.separator ∷ 0 ∷ (le32 c.child ++ c.separator)
 
 abbrev pub branch_good : List ℕ → Bool
 branch_good b =
-    nat_le 6 (length b) && (nat_le 1 (slice_index b 0) && (nat_le (slice_index b 0) 64 && (slice_index b 1 == 0 && length b == 6 + slice_index b 0)))
+    nat_le 6 (length b) && (is_key_length (slice_index b 0) && (slice_index b 1 == 0 && length b == 6 + slice_index b 0))
 
 abbrev pub branch_key : List ℕ → List ℕ
 branch_key b = drop 6 b

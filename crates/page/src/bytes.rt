@@ -9,9 +9,10 @@ pub(crate) fn read16(page: &Page, at: usize) -> usize
     requires { at + 2 ≤ 512 }
     ensures { result ≡ word16 page.now at }
 {
-    u16::from_le_bytes(page[at..at + 2].try_into().unwrap()) as usize
+    usize::from(u16::from_le_bytes(page[at..at + 2].try_into().unwrap()))
 }
 
+// By `as`, since the contract says that the value fits.
 pub(crate) fn write16(page: &mut Page, at: usize, value: usize)
     requires within { at + 2 ≤ 512 }
     requires small { value < 2 ^ 16 }

@@ -4,7 +4,7 @@ ghost use Rattle.checksum.specs.declared.kind.Kind.{Kind};
 ghost use Rattle.checksum.specs.declared.kind.Kind.TheVariants.{Leaf, Branch};
 ghost use Rattle.cuts.specs.Nodes.{Pair, pair_cost, cell_cost};
 ghost use Rattle.page.specs.Goods.{leaf_costs, leaf_small, branch_costs, branch_small};
-ghost use Rattle.page.specs.Kinds.{Rules, BranchItem, leaf_rules, branch_rules, pair_of, cell_of};
+ghost use Rattle.page.specs.Kinds.{Rules, BranchItem, is_key_length, leaf_rules, branch_rules, pair_of, cell_of};
 
 use checksum::Kind;
 
@@ -47,6 +47,13 @@ pub trait Cell {
     ghost small: { (b : List ℕ) → rules.good b ≡ true → 2 + length b ≤ 196 };
 }
 
+// Whether a key or a separator may have so many bytes: the one place where the code has these bounds.
+pub(crate) fn is_key_len(len: usize) -> bool
+    ensures { result ≡ is_key_length len }
+{
+    (1..=64).contains(&len)
+}
+
 // The first byte of a page of such cells.
 pub(crate) fn kind_byte<C: Cell>() -> u8
     ensures { result ≡ C.rules.kind }
@@ -82,13 +89,13 @@ impl Cell for LeafCell {
 
     fn is_good(body: &[u8]) -> bool {
         body.len() >= Self::HEAD
-            && (1..=64).contains(&body[0])
+            && is_key_len(usize::from(body[0]))
             && body[1] <= 128
-            && body.len() == Self::HEAD + body[0] as usize + body[1] as usize
+            && body.len() == Self::HEAD + usize::from(body[0]) + usize::from(body[1])
     }
 
     fn key_of(body: &[u8]) -> &[u8] {
-        &body[Self::HEAD..Self::HEAD + body[0] as usize]
+        &body[Self::HEAD..Self::HEAD + usize::from(body[0])]
     }
 
     fn allows_leftmost(child: u32) -> bool {
@@ -120,9 +127,9 @@ impl Cell for BranchCell {
 
     fn is_good(body: &[u8]) -> bool {
         body.len() >= Self::HEAD
-            && (1..=64).contains(&body[0])
+            && is_key_len(usize::from(body[0]))
             && body[1] == 0
-            && body.len() == Self::HEAD + body[0] as usize
+            && body.len() == Self::HEAD + usize::from(body[0])
     }
 
     fn key_of(body: &[u8]) -> &[u8] {

@@ -1,4 +1,6 @@
-ghost use Rattle.page.specs.Layout.{Laid};
+ghost use Rattle.std.specs.Prelude.{◌≡◌, true};
+ghost use Rattle.page.specs.Layout.{Laid, cells_of};
+ghost use Rattle.page.specs.Reading.{every};
 
 use crate::cell::Cell;
 use device::Page;
@@ -12,4 +14,5 @@ pub(crate) struct Draft<C: Cell> {
     bytes: Page,
     kind: PhantomData<C>,
     ghost laid: { Laid C.rules.kind bytes },
+    ghost goods: { every C.rules.good (cells_of bytes) ≡ true },
 }

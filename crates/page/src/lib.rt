@@ -1,6 +1,7 @@
 // Pages of cells: their layout, their first fault, and their edits.
 #![tactic(auto)]
 
+mod body;
 mod branch;
 mod bytes;
 mod cell;

@@ -1,5 +1,6 @@
 ghost use Rattle.page.specs.Splices.{loose, Spliced};
 
+use crate::body::Body;
 use crate::cell::Cell;
 use crate::cells::Cells;
 
@@ -16,7 +17,7 @@ pub(crate) struct Splice<'a, C: Cell> {
     pub front: Cells<'a, C>,
     // how many of its cells come first
     pub keep: usize,
-    pub middle: Option<&'a [u8]>,
+    pub middle: Option<Body<'a, C>>,
     pub back: Cells<'a, C>,
     // from which of its cells on they come last
     pub skip: usize,

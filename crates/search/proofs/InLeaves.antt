@@ -1,6 +1,8 @@
 -- Searches in one leaf.
-use Rattle.std.proofs.Common.{◌≡◌, ℕ, zero, suc, ◌<◌, ◌≤◌, Bool, true, false, cond, List, [], ◌∷◌, length, Some, None, sym, refl, ap, ◌∙◌, subst, arith}
+use Rattle.std.proofs.Common.{◌≡◌, ℕ, zero, suc, ◌<◌, ◌≤◌, Bool, true, false, cond, ltb, List, [], ◌∷◌, length, Some, None, sym, refl, ap, ◌∙◌, subst, arith}
+use Rattle.std.specs.Bool.{then_some}
 use Rattle.std.specs.Option.{option_map}
+use Rattle.std.proofs.lemmas.Bool.{ltb-true, ltb-false}
 use Rattle.std.proofs.ByRecursion.{All-get_or}
 use Rattle.cuts.specs.Keys.{key<, Below}
 use Rattle.cuts.specs.Nodes.{Pair}
@@ -73,10 +75,17 @@ module _ (leaf : LeafPage) (k : List ℕ) where
   in_leaf_missing f = subst (λ o. InLeaf leaf o None) (sym (ap (option_map (pair k)) (lookup_none k ps f))) refl
 
   module _ (i : ℕ) (e : i ≡ up_to key_of k ps) where
-    pub in_leaf_above : i < length ps → InLeaf leaf (first_above k ps) (Some (record { leaf = leaf; cell = i }))
+    in_leaf_above : i < length ps → InLeaf leaf (first_above k ps) (Some (record { leaf = leaf; cell = i }))
     in_leaf_above h =
         subst (λ o. InLeaf leaf o (Some (record { leaf = leaf; cell = i }))) (sym (above_here k ps (omega arith)))
         (record { leaf = leaf; cell = i }, refl, refl, record { within = h; pair_is = ap (pair_at ps) e })
 
-    pub in_leaf_past : length ps ≤ i → InLeaf leaf (first_above k ps) None
+    in_leaf_past : length ps ≤ i → InLeaf leaf (first_above k ps) None
     in_leaf_past h = subst (λ o. InLeaf leaf o None) (sym (above_none k ps (omega arith))) refl
+
+    above_if : (b : Bool) → (b ≡ true → i < length ps) → (b ≡ false → length ps ≤ i) → InLeaf leaf (first_above k ps) (then_some b (record { leaf = leaf; cell = i }))
+    above_if true y n = in_leaf_above (y refl)
+    above_if false y n = in_leaf_past (n refl)
+
+    pub in_leaf_if : (n : ℕ) → n ≡ length ps → InLeaf leaf (first_above k ps) (then_some (ltb i n) (record { leaf = leaf; cell = i }))
+    in_leaf_if n h = above_if (ltb i n) (λ t. omega (arith, ltb-true _ _ t)) (λ f. omega (arith, ltb-false _ _ f))

@@ -27,11 +27,7 @@ fn after_in(leaf: LeafPage, key: &[u8]) -> Option<Place>
     ensures { InLeaf leaf (first_above key.now (leaf_pairs leaf)) result }
 {
     let cell = leaf.above(key);
-    if cell < leaf.len() {
-        Some(Place { leaf, cell })
-    } else {
-        None
-    }
+    (cell < leaf.len()).then_some(Place { leaf, cell })
 }
 
 impl Tree {

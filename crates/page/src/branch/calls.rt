@@ -1,11 +1,13 @@
 ghost use Rattle.page.specs.Growths.{PutsChild, InsertsChild, MergesChildren, ReplacesChildren, MakesRoot, JoinsBranches};
 
+use crate::body::Body;
 use crate::branch::BranchPage;
-use crate::cell::BranchCell;
+use crate::cell::{BranchCell, is_key_len};
 use crate::cell_page::CellPage;
 use crate::draft::Draft;
 use crate::grown::Grown;
 use crate::short::Short;
+use std::marker::PhantomData;
 
 impl CellPage<BranchCell> {
     // The branch with another page for child i; none, if it has no such child.
@@ -70,12 +72,15 @@ impl CellPage<BranchCell> {
     pub fn root(left: u32, separator: &[u8], right: u32) -> Option<BranchPage>
         ensures { MakesRoot left separator.now right result }
     {
-        let 1..=64 = separator.len() else {
+        if !is_key_len(separator.len()) {
             return None;
-        };
+        }
         let cell = Short::branch_cell(separator, right);
         let mut draft = Draft::<BranchCell>::new(left);
-        draft.push(cell.as_slice());
+        draft.push(Body {
+            bytes: cell.as_slice(),
+            kind: PhantomData,
+        });
         Some(draft.finish())
     }
 

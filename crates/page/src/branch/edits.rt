@@ -4,30 +4,21 @@ ghost use Rattle.cuts.specs.Nodes.{cell_cost};
 ghost use Rattle.tree.specs.Places.{separator_at};
 ghost use Rattle.tree.specs.Trees.{branch, cell};
 ghost use Rattle.page.specs.Branches.{CutsBranch, ascending, ends_below, starts_above};
-ghost use Rattle.page.specs.Growths.{around, cost_around, branch_grown, fitted_branch, GrowsTo};
-ghost use Rattle.page.specs.Kinds.{branch_good, branch_key, cell_of};
+ghost use Rattle.page.specs.Growths.{around, branch_grown, fitted_branch, GrowsTo, TwoEnds};
+ghost use Rattle.page.specs.Kinds.{branch_key, cell_of};
 ghost use Rattle.page.specs.Layout.{cost};
 ghost use Rattle.page.specs.Lists.{cells_in};
-ghost use Rattle.page.specs.Shorts.{held};
 ghost use Rattle.page.specs.Views.{branch_node};
 
+use crate::body::Body;
 use crate::branch::BranchPage;
-use crate::branch::reads::child_of;
-use crate::cell::{BranchCell, Cell};
+use crate::cell::{BranchCell, is_key_len};
 use crate::cell_page::CellPage;
 use crate::grown::Grown;
 use crate::short::Short;
 use crate::splice::{Splice, USABLE};
 use cuts::key_less;
-
-fn separator_of(cell: &[u8]) -> Short
-    requires { branch_good cell.now ≡ true }
-    ensures { held result ≡ branch_key cell.now }
-{
-    let mut separator = Short::new();
-    separator.push(BranchCell::key_of(cell));
-    separator
-}
+use std::marker::PhantomData;
 
 impl Splice<'_, BranchCell> {
     // Which cell an overfull list gives up: the parts before and after it fit a page.
@@ -53,8 +44,8 @@ impl Splice<'_, BranchCell> {
         let given = self.get(at);
         Grown::Two(
             self.part(0, at, leftmost),
-            separator_of(given),
-            self.part(at + 1, self.len(), child_of(given)),
+            given.separator(),
+            self.part(at + 1, self.len(), given.child()),
         )
     }
 }
@@ -68,11 +59,10 @@ impl CellPage<BranchCell> {
     }
 
     // Another cell with the same separator in place of one.
-    fn set_cell<'a>(&'a self, i: usize, cell: &'a [u8]) -> BranchPage
+    fn set_cell<'a>(&'a self, i: usize, cell: Body<'a, BranchCell>) -> BranchPage
         requires within { i < length (branch_node self.now).rest }
-        requires good { branch_good cell.now ≡ true }
-        requires same { branch_key cell.now ≡ separator_at i (branch_node self.now).rest }
-        ensures { branch_node result ≡ around self.now i (cell_of cell.now) self.now (i + 1) }
+        requires same { branch_key cell.bytes.now ≡ separator_at i (branch_node self.now).rest }
+        ensures { branch_node result ≡ around self.now i (cell_of cell.entry.bytes.now) self.now (i + 1) }
     {
         let leftmost = self.cells().leftmost();
         self.splice(i, Some(cell), self, i + 1).whole(leftmost)
@@ -84,23 +74,24 @@ impl CellPage<BranchCell> {
         ensures { branch_node result ≡ around self.now i (cell (separator_at i (branch_node self.now).rest) child) self.now (i + 1) }
     {
         let cell = Short::branch_cell(self.cells().key(i), child);
-        self.set_cell(i, cell.as_slice())
+        let body = Body {
+            bytes: cell.as_slice(),
+            kind: PhantomData,
+        };
+        self.set_cell(i, body)
     }
 
     // The first cells of this branch, a new one, and the last cells of a branch.
     fn with_new<'a>(
         &'a self,
         keep: usize,
-        cell: &'a [u8],
+        cell: Body<'a, BranchCell>,
         back: &'a BranchPage,
         skip: usize,
     ) -> Grown<BranchPage>
-        requires keep { keep ≤ length (branch_node self.now).rest }
-        requires skip { skip ≤ length (branch_node back.now).rest }
-        requires good { branch_good cell.now ≡ true }
-        requires rises { ascending (around self.now keep (cell_of cell.now) back.now skip).rest ≡ true }
-        requires few { cost_around self.now keep back.now skip ≤ 619 }
-        ensures { branch_grown result ≡ fitted_branch (around self.now keep (cell_of cell.now) back.now skip) }
+        requires ends { TwoEnds self.now keep back.now skip }
+        requires rises { ascending (around self.now keep (cell_of cell.bytes.now) back.now skip).rest ≡ true }
+        ensures { branch_grown result ≡ fitted_branch (around self.now keep (cell_of cell.entry.bytes.now) back.now skip) }
     {
         let leftmost = self.cells().leftmost();
         self.splice(keep, Some(cell), back, skip).branches(leftmost)
@@ -123,7 +114,8 @@ impl CellPage<BranchCell> {
     }
 
     // The first cells of this branch, a cell of this separator and child, and the last cells of a branch; none, if
-    // that cannot be a separator there.
+    // that cannot be a separator there. (What is kept is said by `keep`, `back` and `skip` down to the splice, which is the
+    // struct of them: it can be made only once its keys are known to rise.)
     pub(crate) fn placed(
         &self,
         keep: usize,
@@ -132,14 +124,12 @@ impl CellPage<BranchCell> {
         back: &BranchPage,
         skip: usize,
     ) -> Option<Grown<BranchPage>>
-        requires keep { keep ≤ length (branch_node self.now).rest }
-        requires skip { skip ≤ length (branch_node back.now).rest }
-        requires few { cost_around self.now keep back.now skip ≤ 619 }
+        requires { TwoEnds self.now keep back.now skip }
         ensures { GrowsTo separator.now (around self.now keep (cell separator.now child) back.now skip) result }
     {
-        let 1..=64 = separator.len() else {
+        if !is_key_len(separator.len()) {
             return None;
-        };
+        }
         if !self.ends_below(keep, separator) {
             return None;
         }
@@ -147,6 +137,10 @@ impl CellPage<BranchCell> {
             return None;
         }
         let cell = Short::branch_cell(separator, child);
-        Some(self.with_new(keep, cell.as_slice(), back, skip))
+        let body = Body {
+            bytes: cell.as_slice(),
+            kind: PhantomData,
+        };
+        Some(self.with_new(keep, body, back, skip))
     }
 }

@@ -3,6 +3,7 @@ ghost use Rattle.page.specs.Layout.{cells_of, left_of};
 ghost use Rattle.page.specs.Lists.{cells_in};
 ghost use Rattle.page.specs.Splices.{loose, parts, Spliced};
 
+use crate::body::Body;
 use crate::cell::Cell;
 use crate::cell_page::CellPage;
 use crate::splice::Splice;
@@ -12,7 +13,7 @@ impl<C: Cell> CellPage<C> {
     pub(crate) fn splice<'a>(
         &'a self,
         keep: usize,
-        middle: Option<&'a [u8]>,
+        middle: Option<Body<'a, C>>,
         back: &'a Self,
         skip: usize,
     ) -> Splice<'a, C>

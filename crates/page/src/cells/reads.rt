@@ -4,10 +4,12 @@ ghost use Rattle.page.specs.Layout.{cost, cells_of, left_of};
 ghost use Rattle.page.specs.Places.{up_to};
 ghost use Rattle.page.specs.Reading.{rising};
 
+use crate::body::Body;
 use crate::bytes::{count_of, edge, leftmost_of};
 use crate::cell::Cell;
 use crate::cells::Cells;
 use cuts::key_less;
+use std::marker::PhantomData;
 
 impl<'a, C: Cell> Cells<'a, C> {
     pub(crate) fn len(&self) -> usize
@@ -22,21 +24,24 @@ impl<'a, C: Cell> Cells<'a, C> {
         leftmost_of(self.page)
     }
 
-    pub(crate) fn get(&self, i: usize) -> &'a [u8]
+    pub(crate) fn get(&self, i: usize) -> Body<'a, C>
         requires { i < length (cells_of self.now.page.now) }
-        ensures { result.now ≡ slice_index_or (cells_of self.now.page.now) i [] }
+        ensures { result.bytes.now ≡ slice_index_or (cells_of self.now.page.now) i [] }
     {
         let page = self.page;
         let end = edge(page, i);
         let from = edge(page, i + 1);
-        &page[from..end]
+        Body {
+            bytes: &page[from..end],
+            kind: PhantomData,
+        }
     }
 
     pub(crate) fn key(&self, i: usize) -> &'a [u8]
         requires { i < length (cells_of self.now.page.now) }
         ensures { result.now ≡ C.rules.key (slice_index_or (cells_of self.now.page.now) i []) }
     {
-        C::key_of(self.get(i))
+        self.get(i).key()
     }
 
     // The bytes that the cells from i up to j cost.

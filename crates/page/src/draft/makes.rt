@@ -1,7 +1,8 @@
 ghost use Rattle.std.specs.Prelude.{◌≡◌, ◌+◌, ◌≤◌, true, [], ◌∷◌, ◌++◌, length};
 ghost use Rattle.page.specs.Layout.{bodies, cost, cells_of, left_of};
-ghost use Rattle.page.specs.Reading.{every, rising};
+ghost use Rattle.page.specs.Reading.{rising};
 
+use crate::body::Body;
 use crate::bytes::{count_of, put, read16, write16};
 use crate::cell::{Cell, kind_byte};
 use crate::cell_page::CellPage;
@@ -34,14 +35,14 @@ impl<C: Cell> Draft<C> {
     }
 
     // One more cell, for which there is room.
-    pub(crate) fn push(&mut self, body: &[u8])
-        requires { cost (cells_of self.old.bytes) + 2 + length body.now ≤ 496 }
+    pub(crate) fn push(&mut self, body: Body<'_, C>)
+        requires { cost (cells_of self.old.bytes) + 2 + length body.bytes.now ≤ 496 }
         ensures left { left_of self.new.bytes ≡ left_of self.old.bytes }
-        ensures cells { cells_of self.new.bytes ≡ cells_of self.old.bytes ++ body.now ∷ [] }
+        ensures cells { cells_of self.new.bytes ≡ cells_of self.old.bytes ++ body.entry.bytes.now ∷ [] }
     {
         let n = count_of(&self.bytes);
-        let at = self.lowest() - body.len();
-        put(&mut self.bytes, at, body);
+        let at = self.lowest() - body.bytes.len();
+        put(&mut self.bytes, at, body.bytes);
         write16(&mut self.bytes, 16 + 2 * n, at);
         write16(&mut self.bytes, 4, at);
         write16(&mut self.bytes, 2, n + 1);
@@ -49,7 +50,6 @@ impl<C: Cell> Draft<C> {
 
     // The page, with its checksum, when all cells are there.
     pub(crate) fn finish(self) -> CellPage<C>
-        requires goods { every C.rules.good (cells_of self.bytes) ≡ true }
         requires rises { rising C.rules.key (cells_of self.bytes) ≡ true }
         requires leftmost { C.rules.leftmost (left_of self.bytes) ≡ true }
         ensures left { left_of result.bytes ≡ left_of self.bytes }

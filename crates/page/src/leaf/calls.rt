@@ -2,12 +2,14 @@ ghost use Rattle.std.specs.Prelude.{◌≡◌, []};
 ghost use Rattle.page.specs.Growths.{PutsPair, RemovesPair, JoinsLeaves};
 ghost use Rattle.page.specs.Views.{leaf_pairs};
 
-use crate::cell::LeafCell;
+use crate::body::Body;
+use crate::cell::{LeafCell, is_key_len};
 use crate::cell_page::CellPage;
 use crate::draft::Draft;
 use crate::grown::Grown;
 use crate::leaf::LeafPage;
 use crate::short::Short;
+use std::marker::PhantomData;
 
 impl CellPage<LeafCell> {
     pub fn empty() -> Self
@@ -17,19 +19,23 @@ impl CellPage<LeafCell> {
     }
 
     // The leaf with this pair in it: one page, or two; none, if the key has not 1 to 64 bytes, or the value more
-    // than 128.
+    // than 128. (One none for both, and so in the other edits: no caller tells apart why an edit may not be done.)
     pub fn put(&self, key: &[u8], value: &[u8]) -> Option<Grown<LeafPage>>
         ensures { PutsPair self.now key.now value.now result }
     {
-        if key.len() < 1 || key.len() > 64 || value.len() > 128 {
+        if !is_key_len(key.len()) || value.len() > 128 {
             return None;
         }
         let cell = Short::leaf_cell(key, value);
+        let body = Body {
+            bytes: cell.as_slice(),
+            kind: PhantomData,
+        };
         match self.find(key) {
-            Some(i) => Some(self.with_cell(i, cell.as_slice(), i + 1)),
+            Some(i) => Some(self.with_cell(i, body, i + 1)),
             None => {
                 let at = self.above(key);
-                Some(self.with_cell(at, cell.as_slice(), at))
+                Some(self.with_cell(at, body, at))
             }
         }
     }

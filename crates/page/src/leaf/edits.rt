@@ -4,7 +4,7 @@ ghost use Rattle.cuts.specs.Keys.{separator};
 ghost use Rattle.cuts.specs.Nodes.{pair_cost};
 ghost use Rattle.tree.specs.Maps.{Rising};
 ghost use Rattle.page.specs.Growths.{leaf_grown, fitted};
-ghost use Rattle.page.specs.Kinds.{leaf_good, leaf_key, pair_of};
+ghost use Rattle.page.specs.Kinds.{leaf_key, pair_of};
 ghost use Rattle.page.specs.Layout.{cost, cells_of};
 ghost use Rattle.page.specs.Lists.{cells_in};
 ghost use Rattle.page.specs.Reading.{rising};
@@ -12,7 +12,8 @@ ghost use Rattle.page.specs.Shorts.{held};
 ghost use Rattle.page.specs.Splices.{CutsLeaf};
 ghost use Rattle.page.specs.Views.{leaf_pairs};
 
-use crate::cell::{Cell, LeafCell};
+use crate::body::Body;
+use crate::cell::LeafCell;
 use crate::cell_page::CellPage;
 use crate::grown::Grown;
 use crate::leaf::LeafPage;
@@ -37,8 +38,8 @@ impl Splice<'_, LeafCell> {
         requires within { at < length (cells_in self.now) }
         ensures { held result ≡ separator (leaf_key (slice_index_or (cells_in self.now) (at - 1) [])) (leaf_key (slice_index_or (cells_in self.now) at [])) }
     {
-        let before = LeafCell::key_of(self.get(at - 1));
-        let after = LeafCell::key_of(self.get(at));
+        let before = self.get(at - 1).key();
+        let after = self.get(at).key();
         let mut separator = Short::new();
         separator.push(&after[0..separator_len(before, after)]);
         separator
@@ -66,14 +67,13 @@ impl CellPage<LeafCell> {
     pub(crate) fn with_cell<'a>(
         &'a self,
         keep: usize,
-        cell: &'a [u8],
+        cell: Body<'a, LeafCell>,
         skip: usize,
     ) -> Grown<LeafPage>
         requires keep { keep ≤ skip }
         requires skip { skip ≤ length (leaf_pairs self.now) }
-        requires good { leaf_good cell.now ≡ true }
-        requires rises { Rising (take keep (leaf_pairs self.now) ++ (pair_of cell.now ∷ drop skip (leaf_pairs self.now))) }
-        ensures { leaf_grown result ≡ fitted (take keep (leaf_pairs self.now) ++ (pair_of cell.now ∷ drop skip (leaf_pairs self.now))) }
+        requires rises { Rising (take keep (leaf_pairs self.now) ++ (pair_of cell.bytes.now ∷ drop skip (leaf_pairs self.now))) }
+        ensures { leaf_grown result ≡ fitted (take keep (leaf_pairs self.now) ++ (pair_of cell.entry.bytes.now ∷ drop skip (leaf_pairs self.now))) }
     {
         self.splice(keep, Some(cell), self, skip).leaves()
     }

@@ -6,7 +6,6 @@ ghost use Rattle.page.specs.Pairs.{seen, pair_seen, LiesIn};
 use crate::bytes::edge;
 use crate::cell::{Cell, LeafCell};
 use crate::cells::Cells;
-use crate::leaf::reads::value_of;
 use device::Page;
 
 // A pair of a leaf page, as parts of the page's bytes.
@@ -32,7 +31,7 @@ pub fn pair_in(bytes: &Page, cell: usize) -> Option<PairParts<'_>>
         return None;
     }
     let key = cells.key(cell);
-    let value = value_of(cells.get(cell));
+    let value = cells.get(cell).value();
     let key_offset = edge(bytes, cell + 1) + <LeafCell as Cell>::HEAD;
     let value_offset = key_offset + key.len();
     Some(PairParts {

@@ -1,19 +1,10 @@
-ghost use Rattle.std.specs.Prelude.{◌≡◌, ◌+◌, true, drop, slice_index};
+ghost use Rattle.std.specs.Prelude.{◌≡◌};
 ghost use Rattle.std.specs.Option.{option_map};
-ghost use Rattle.page.specs.Kinds.{leaf_good};
 ghost use Rattle.page.specs.Places.{up_to};
 ghost use Rattle.page.specs.Views.{leaf_pairs, key_of, key_of_place, value_of_place, FindsKey};
 
 use crate::cell::LeafCell;
 use crate::cell_page::CellPage;
-
-// The value that a cell holds.
-pub(crate) fn value_of(cell: &[u8]) -> &[u8]
-    requires { leaf_good cell.now ≡ true }
-    ensures { result.now ≡ drop (2 + slice_index cell.now 0) cell.now }
-{
-    &cell[2 + cell[0] as usize..]
-}
 
 impl CellPage<LeafCell> {
     // The key of pair i, if there is one.
@@ -31,7 +22,7 @@ impl CellPage<LeafCell> {
         if i >= cells.len() {
             return None;
         }
-        Some(value_of(cells.get(i)))
+        Some(cells.get(i).value())
     }
 
     // The place of the first pair with a greater key.
@@ -46,14 +37,7 @@ impl CellPage<LeafCell> {
         ensures { FindsKey (leaf_pairs self.now) key.now result }
     {
         let cells = self.cells();
-        let above = cells.place_above(key);
-        if above == 0 {
-            return None;
-        }
-        if cells.key(above - 1) == key {
-            Some(above - 1)
-        } else {
-            None
-        }
+        let i = cells.place_above(key).checked_sub(1)?;
+        (cells.key(i) == key).then_some(i)
     }
 }

@@ -1,4 +1,5 @@
 ghost use Rattle.std.specs.Prelude.{◌≡◌, ◌+◌, ◌≤◌, [], ◌++◌, length};
+ghost use Rattle.cuts.specs.Keys.{KeyFits};
 ghost use Rattle.page.specs.Kinds.{leaf_body, branch_body};
 ghost use Rattle.page.specs.Shorts.{held};
 
@@ -31,10 +32,10 @@ impl Short {
         &self.bytes[0..self.len]
     }
 
-    // The cell of a leaf.
+    // The cell of a leaf. Its lengths fit a byte, by the contract.
     pub(crate) fn leaf_cell(key: &[u8], value: &[u8]) -> Self
-        requires short { length key.now ≤ 64 }
-        requires fits { length value.now ≤ 128 }
+        requires key { KeyFits key.now }
+        requires value { length value.now ≤ 128 }
         ensures { held result ≡ leaf_body (record { key = key.entry.now; value = value.now }) }
     {
         let mut cell = Short::new();
@@ -44,9 +45,9 @@ impl Short {
         cell
     }
 
-    // The cell of a branch.
+    // The cell of a branch. The separator's length fits a byte, by the contract.
     pub(crate) fn branch_cell(separator: &[u8], child: u32) -> Self
-        requires { length separator.now ≤ 64 }
+        requires { KeyFits separator.now }
         ensures { held result ≡ branch_body (record { separator = separator.entry.now; child = child }) }
     {
         let mut cell = Short::new();

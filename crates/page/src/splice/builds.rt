@@ -46,7 +46,7 @@ impl<C: Cell> Splice<'_, C> {
         let mut left = 0;
         let mut right = self.cost();
         for i in 0..n {
-            let one = 2 + self.get(i).len();
+            let one = 2 + self.get(i).bytes.len();
             right -= one;
             if left >= right {
                 return i;
@@ -64,7 +64,7 @@ impl<C: Cell> Splice<'_, C> {
         let all = self.cost();
         let mut left = 0;
         for i in 0..n {
-            left += 2 + self.get(i).len();
+            left += 2 + self.get(i).bytes.len();
             if 2 * left > all {
                 return i;
             }

@@ -2,6 +2,7 @@ ghost use Rattle.std.specs.Prelude.{◌≡◌, ◌<◌, ◌≤◌, [], length, s
 ghost use Rattle.page.specs.Layout.{cost};
 ghost use Rattle.page.specs.Lists.{cells_in};
 
+use crate::body::Body;
 use crate::cell::Cell;
 use crate::splice::Splice;
 
@@ -16,9 +17,9 @@ impl<'a, C: Cell> Splice<'a, C> {
         }
     }
 
-    pub(crate) fn get(&self, i: usize) -> &'a [u8]
+    pub(crate) fn get(&self, i: usize) -> Body<'a, C>
         requires { i < length (cells_in self.now) }
-        ensures { result.now ≡ slice_index_or (cells_in self.now) i [] }
+        ensures { result.bytes.now ≡ slice_index_or (cells_in self.now) i [] }
     {
         if i < self.keep {
             return self.front.get(i);
@@ -43,7 +44,7 @@ impl<'a, C: Cell> Splice<'a, C> {
     {
         let ends = self.front.cost(0, self.keep) + self.back.cost(self.skip, self.back.len());
         match self.middle {
-            Some(cell) => ends + 2 + cell.len(),
+            Some(cell) => ends + 2 + cell.bytes.len(),
             None => ends,
         }
     }

@@ -1,4 +1,4 @@
-use Rattle.std.proofs.Common.{◌+◌, [], ◌++◌, take, drop, refl, ap, ◌∙◌, add-one, arith}
+use Rattle.std.proofs.Common.{◌+◌, [], ◌++◌, take, drop, ap, ◌∙◌, add-one, arith}
 use Rattle.page.specs.Layout.{cost, cells_of, left_of}
 use Rattle.page.specs.Reading.{rising}
 use Rattle.page.proofs.BranchOrders.{rising_without}
@@ -15,7 +15,6 @@ splice-requires g c =
     record {
       keep = omega arith;
       skip = omega arith;
-      good = refl;
       rises = ap (λ m. rising k.key (take i xs ++ drop m xs)) (add-one i) ∙ rising_without k.key i xs (page_parts k c.args.self.now.bytes c.args.self.now.sound).2;
     }
 

@@ -25,7 +25,7 @@ pub invariant_of-result : goal.invariant_of-result
 invariant_of-result g c =
     let t = (goal.at.invariant_of-result g c).After-seal in
     let b = c.args.self.bytes in
-    record { sound = page_sound g.C.Cell.rules (left_of b) _ (cells_of b) _ (sealed_is g t) (shows g t) c.requires.goods c.requires.leftmost c.requires.rises }
+    record { sound = page_sound g.C.Cell.rules (left_of b) _ (cells_of b) _ (sealed_is g t) (shows g t) c.args.self.goods c.requires.leftmost c.requires.rises }
 
 pub returns : goal.returns
 returns g c = let s = shows g (goal.at.returns g c).After-seal in record { left = leftmost_is s; cells = cells_are s }

@@ -29,6 +29,6 @@ returns-clause-parts c =
     let h : i < length (cells_of b) = omega (arith, length_same e) in
     let len : length b ≡ 512 = search rules in
     let k = c.key-key.ensures ∙ ap (λ z. leaf_key (get_or (cells_of z) i [])) e in
-    let v = c.value_of-value.ensures ∙ (ap (λ s. drop (2 + get_or s 0 0) s) c.get.ensures ∙ ap (λ z. drop (2 + get_or (get_or (cells_of z) i []) 0 0) (get_or (cells_of z) i [])) e) in
+    let v = c.value-value.ensures ∙ (ap (λ s. drop (2 + get_or s 0 0) s) c.get.ensures ∙ ap (λ z. drop (2 + get_or (get_or (cells_of z) i []) 0 0) (get_or (cells_of z) i [])) e) in
     let o = ap (λ n. n + 2) c.edge-key_offset.ensures in
     (key_lies b i free h len _ _ k o, value_lies b i free h len _ _ k o _ v)

@@ -3,11 +3,10 @@ use Rattle.std.specs.List.{between}
 use Rattle.std.proofs.lemmas.List.Edits.{between_more}
 use Rattle.page.specs.Layout.{cost, cells_of}
 use Rattle.page.specs.Lists.{cells_in}
-use Rattle.page.specs.Reading.{every, rising}
+use Rattle.page.specs.Reading.{rising}
 use Rattle.page.proofs.Costs.{one_more}
 use Rattle.page.proofs.Pages.{cost_append, cost_one, cost_between_lem}
-use Rattle.page.proofs.Parts.{every_between, rising_between}
-use Rattle.page.proofs.Splices.{goods_spliced}
+use Rattle.page.proofs.Parts.{rising_between}
 use Rattle.page.proofs.splice.Splice.part.Goals as goal
 
 pub push-requires : goal.push-requires
@@ -24,13 +23,7 @@ loop-i-preserved g c =
     let i = c.loop-i.i in
     let a = c.args.from in
     let more = between_more xs a i [] c.loop-i.auto.i (omega arith) in
-    (c.push.ensures.left ∙ c.loop-i.invariant.0, one_more xs (cells_of c.loop-i.draft.bytes) a i c.get.result.now c.push.ensures.cells c.loop-i.invariant.1 c.get.ensures more)
-
-pub finish-requires-clause-goods : goal.finish-requires-clause-goods
-finish-requires-clause-goods g c =
-    let s = c.args.self.now in
-    let k = g.C.Cell.rules in
-    ap (every k.good) c.loop-i.invariant.1 ∙ every_between k.good c.args.from c.loop-i.i (cells_in s) (goods_spliced k _ _ _ _ _ s.spliced s.front.goods s.back.goods)
+    (c.push.ensures.left ∙ c.loop-i.invariant.0, one_more xs (cells_of c.loop-i.draft.bytes) a i c.get.result.bytes.now c.push.ensures.cells c.loop-i.invariant.1 c.get.ensures more)
 
 pub finish-requires-clause-rises : goal.finish-requires-clause-rises
 finish-requires-clause-rises g c =

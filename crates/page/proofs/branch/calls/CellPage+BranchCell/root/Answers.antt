@@ -8,11 +8,12 @@ use Rattle.page.proofs.BranchLists.{body_good, cell_body}
 use Rattle.page.proofs.BranchSteps.{node_is}
 use Rattle.page.proofs.Branches.{body_small}
 use Rattle.page.proofs.Costs.{cost_started}
+use Rattle.page.proofs.Lengths.{tested_key}
 use Rattle.page.proofs.branch.calls.CellPage+BranchCell.root.Goals as goal
 use Rattle.page.proofs.branch.calls.CellPage+BranchCell.root.Goals.{After-as_slice, After-push}
 
 fits : (c : After-as_slice) → KeyFits c.args.separator.now
-fits c = (omega arith, omega arith)
+fits c = tested_key c.args.separator.now c.if-not-is_key_len.ensures
 
 body : (c : After-as_slice) → c.as_slice.result.now ≡ branch_body (cell c.args.separator.now c.args.right)
 body c = c.as_slice.ensures ∙ c.branch_cell-cell.ensures

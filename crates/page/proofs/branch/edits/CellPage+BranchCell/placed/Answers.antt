@@ -1,14 +1,14 @@
 use Rattle.std.proofs.Common.{◌≡◌, ◌^◌, ◌<◌, ◌∷◌, ◌++◌, map, take, drop, sym, ap, ◌∙◌, arith}
-use Rattle.page.specs.Kinds.{cell_of, branch_body, branch_good}
+use Rattle.page.specs.Kinds.{cell_of, branch_body}
 use Rattle.page.specs.Layout.{cells_of, left_of}
 use Rattle.page.proofs.Children.{branch_bytes_lem}
 use Rattle.std.proofs.lemmas.Bool.{false≢true}
-use Rattle.cuts.specs.Keys.{KeyFits}
 use Rattle.tree.specs.Trees.{cell, branch}
 use Rattle.page.specs.Branches.{ascending}
 use Rattle.page.specs.Growths.{fitted_branch}
-use Rattle.page.proofs.BranchLists.{body_good, cell_body}
+use Rattle.page.proofs.BranchLists.{cell_body}
 use Rattle.page.proofs.BranchOrders.{sorted_parts, sorted_from}
+use Rattle.page.proofs.Lengths.{tested_key}
 use Rattle.page.proofs.branch.edits.CellPage+BranchCell.placed.Goals as goal
 
 pub returns-then-not-ends_below : goal.returns-then-not-ends_below
@@ -39,16 +39,12 @@ with_new-requires c =
     let x = c.args.child in
     let k = c.args.keep in
     let m = c.args.skip in
-    let f : KeyFits s = (omega arith, omega arith) in
     let l : x < 2 ^ 32 = omega arith in
     let e : c.as_slice.result.now ≡ branch_body (cell s x) = c.as_slice.ensures ∙ c.branch_cell-cell.ensures in
     let r = sorted_from (cells_of a) (cells_of b) (branch_bytes_lem a sa).rises (branch_bytes_lem b sb).rises k m s x (sym c.if-not-ends_below.ensures) (sym c.if-not-starts_above.ensures) in
     record {
-      keep = c.requires.keep;
-      skip = c.requires.skip;
-      good = ap branch_good e ∙ body_good s x f;
+      ends = c.requires;
       rises = ap (λ d. ascending (take k (map cell_of (cells_of a)) ++ d ∷ drop m (map cell_of (cells_of b)))) (ap cell_of e ∙ cell_body s x l) ∙ r;
-      few = c.requires.few;
     }
 
 pub returns : goal.returns
@@ -61,7 +57,7 @@ returns c =
     let x = c.args.child in
     let k = c.args.keep in
     let m = c.args.skip in
-    let f : KeyFits s = (omega arith, omega arith) in
+    let f = tested_key s c.if-not-is_key_len.ensures in
     let l : x < 2 ^ 32 = omega arith in
     let e : c.as_slice.result.now ≡ branch_body (cell s x) = c.as_slice.ensures ∙ c.branch_cell-cell.ensures in
     let r = sorted_from (cells_of a) (cells_of b) (branch_bytes_lem a sa).rises (branch_bytes_lem b sb).rises k m s x (sym c.if-not-ends_below.ensures) (sym c.if-not-starts_above.ensures) in

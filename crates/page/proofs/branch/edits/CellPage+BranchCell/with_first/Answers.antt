@@ -5,7 +5,7 @@ use Rattle.page.proofs.Children.{page_parts}
 use Rattle.page.proofs.branch.edits.CellPage+BranchCell.with_first.Goals as goal
 
 pub splice-requires : goal.splice-requires
-splice-requires c = record { keep = omega arith; skip = omega arith; good = refl; rises = (page_parts branch_rules c.args.self.now.bytes c.args.self.now.sound).2 }
+splice-requires c = record { keep = omega arith; skip = omega arith; rises = (page_parts branch_rules c.args.self.now.bytes c.args.self.now.sound).2 }
 
 pub whole-requires : goal.whole-requires
 whole-requires c =

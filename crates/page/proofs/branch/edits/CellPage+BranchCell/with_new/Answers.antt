@@ -1,5 +1,4 @@
-use Rattle.std.proofs.Common.{◌∷◌, ◌++◌, map, take, drop, refl, ap, ◌∙◌, arith}
-use Rattle.std.proofs.lemmas.Bool.{and_from}
+use Rattle.std.proofs.Common.{◌∷◌, ◌++◌, map, take, drop, ap, ◌∙◌, arith}
 use Rattle.std.proofs.lemmas.List.{length-map}
 use Rattle.tree.specs.Trees.{branch}
 use Rattle.page.specs.Branches.{ascending}
@@ -18,11 +17,10 @@ splice-requires c =
     let ys = cells_of c.args.back.now.bytes in
     let k = c.args.keep in
     let m = c.args.skip in
-    let d = c.args.cell.now in
+    let d = c.args.cell.bytes.now in
     record {
-      keep = omega (arith, length-map xs cell_of, c.requires.keep);
-      skip = omega (arith, length-map ys cell_of, c.requires.skip);
-      good = and_from _ _ c.requires.good refl;
+      keep = omega (arith, length-map xs cell_of, c.requires.ends.keep);
+      skip = omega (arith, length-map ys cell_of, c.requires.ends.skip);
       rises = rising_ascending (take k xs ++ d ∷ drop m ys) ∙ (ap ascending (with_cells xs ys k m d) ∙ c.requires.rises);
     }
 
@@ -30,7 +28,7 @@ pub branches-requires : goal.branches-requires
 branches-requires c =
     let xs = cells_of c.args.self.now.bytes in
     let ys = cells_of c.args.back.now.bytes in
-    let d = c.args.cell.now in
+    let d = c.args.cell.bytes.now in
     let p = (page_parts branch_rules c.args.self.now.bytes c.args.self.now.sound).1 in
     let q = (page_parts branch_rules c.args.back.now.bytes c.args.back.now.sound).1 in
     omega (
@@ -39,8 +37,8 @@ branches-requires c =
       with_cost xs ys c.args.keep c.args.skip d,
       cost_take_cells xs c.args.keep p,
       cost_drop_cells ys c.args.skip q,
-      c.requires.few,
-      body_small d c.requires.good,
+      c.requires.ends.few,
+      body_small d c.args.cell.good,
     )
 
 pub returns : goal.returns
@@ -49,7 +47,7 @@ returns c =
     let e = c.args.back.now.bytes in
     let k = c.args.keep in
     let m = c.args.skip in
-    let d = c.args.cell.now in
+    let d = c.args.cell.bytes.now in
     c.branches.ensures
     ∙ ap fitted_branch (ap (branch c.leftmost-leftmost.result) (ap (map cell_of) c.splice.ensures ∙ with_cells (cells_of b) (cells_of e) k m d)
     ∙ ap (λ l. branch l (take k (map cell_of (cells_of b)) ++ cell_of d ∷ drop m (map cell_of (cells_of e)))) (c.leftmost-leftmost.ensures ∙ ap left_of c.cells.ensures.same))

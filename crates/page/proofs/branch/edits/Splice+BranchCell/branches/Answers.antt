@@ -1,13 +1,12 @@
 use Rattle.std.proofs.Common.{◌+◌, map, ap, ◌∙◌, arith}
 use Rattle.tree.specs.Trees.{branch}
-use Rattle.page.specs.Kinds.{branch_good, branch_key, cell_of}
+use Rattle.page.specs.Kinds.{branch_key, cell_of}
 use Rattle.page.specs.Layout.{cells_of}
 use Rattle.page.specs.Lists.{cells_in}
 use Rattle.checksum.specs.Bytes.{word32}
 use Rattle.page.proofs.Branches.{fits_one, fits_two}
 use Rattle.page.proofs.Parts.{map_between}
 use Rattle.page.proofs.Splices.{list_good}
-use Rattle.page.proofs.Tested.{every_at}
 use Rattle.page.proofs.branch.edits.Splice+BranchCell.branches.Goals as goal
 
 pub returns-then-cost-le-USABLE : goal.returns-then-cost-le-USABLE
@@ -15,16 +14,6 @@ returns-then-cost-le-USABLE c =
     let s = c.args.self.now in
     fits_one c.args.leftmost (cells_in s) (list_good s) _ (omega (arith, c.cost.ensures.value))
     (ap (λ l. branch l (map cell_of (cells_of c.whole.result.bytes))) c.whole.ensures.left ∙ ap (λ xs. branch c.args.leftmost (map cell_of xs)) c.whole.ensures.cells)
-
-pub separator_of-requires : goal.separator_of-requires
-separator_of-requires c =
-    let s = c.args.self.now in
-    ap branch_good c.get-given.ensures ∙ every_at branch_good (cells_in s) c.branch_cut-at.result (list_good s) c.branch_cut-at.ensures.parts.within
-
-pub child_of-requires : goal.child_of-requires
-child_of-requires c =
-    let s = c.args.self.now in
-    ap branch_good c.get-given.ensures ∙ every_at branch_good (cells_in s) c.branch_cut-at.result (list_good s) c.branch_cut-at.ensures.parts.within
 
 pub returns : goal.returns
 returns c =
@@ -36,6 +25,6 @@ returns c =
     let q = c.part-2.result.bytes in
     fits_two c.args.leftmost xs (list_good s) i n _ _ _ (omega (arith, c.cost.ensures.value)) c.branch_cut-at.ensures.parts c.branch_cut-at.ensures.value c.len.ensures
     (ap (λ l. branch l (map cell_of (cells_of p))) c.part.ensures.left ∙ ap (branch c.args.leftmost) (ap (map cell_of) c.part.ensures.cells ∙ map_between cell_of 0 i xs))
-    (c.separator_of.ensures ∙ ap branch_key c.get-given.ensures)
-    (ap (λ l. branch l (map cell_of (cells_of q))) (c.part-2.ensures.left ∙ (c.child_of.ensures ∙ ap (λ b. word32 b 2) c.get-given.ensures))
+    (c.separator.ensures ∙ ap branch_key c.get-given.ensures)
+    (ap (λ l. branch l (map cell_of (cells_of q))) (c.part-2.ensures.left ∙ (c.child.ensures ∙ ap (λ b. word32 b 2) c.get-given.ensures))
     ∙ ap (branch (word32 _ 2)) (ap (map cell_of) c.part-2.ensures.cells ∙ map_between cell_of (i + 1) n xs))

@@ -12,5 +12,5 @@ returns c =
     let b = c.args.self.now.bytes in
     let e = c.cells-cells.ensures.same in
     let i = c.args.i in
-    child_later (left_of b) (cells_of b) i c.child_of.result (omega arith) (omega (arith, length-map (cells_of b) cell_of, length_same e))
-    (c.child_of.ensures ∙ (ap (λ x. word32 x 2) c.get.ensures ∙ ap (λ z. word32 (get_or (cells_of z) (i - 1) []) 2) e))
+    child_later (left_of b) (cells_of b) i c.child.result (omega arith) (omega (arith, length-map (cells_of b) cell_of, length_same e))
+    (c.child.ensures ∙ (ap (λ x. word32 x 2) c.get.ensures ∙ ap (λ z. word32 (get_or (cells_of z) (i - 1) []) 2) e))

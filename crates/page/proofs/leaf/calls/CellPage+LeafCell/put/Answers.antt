@@ -1,21 +1,19 @@
-use Rattle.std.proofs.Common.{◌≡◌, ℕ, ◌≤◌, true, List, length, sym, ap, ◌∙◌, subst, arith}
+use Rattle.std.proofs.Common.{◌≡◌, ℕ, List, sym, ap, ◌∙◌, subst, arith}
 use Rattle.std.proofs.lemmas.List.{length-map}
 use Rattle.tree.specs.Maps.{pair, Rising}
 use Rattle.tree.proofs.Insertion.{insert_rising}
 use Rattle.page.specs.Growths.{fitted}
-use Rattle.page.specs.Kinds.{leaf_body, leaf_good, leaf_key, leaf_rules, pair_of}
+use Rattle.page.specs.Kinds.{leaf_body, leaf_key, leaf_rules, pair_of}
 use Rattle.page.specs.Layout.{cells_of}
 use Rattle.page.specs.Views.{pairs_in}
 use Rattle.page.proofs.Children.{page_parts}
 use Rattle.page.proofs.Finds.{up_to_pairs}
 use Rattle.page.proofs.Places.{up_to_length}
-use Rattle.page.proofs.Puts.{pair_back, good_body, rising_pairs, put_old, put_new}
+use Rattle.page.proofs.Puts.{pair_back, rising_pairs, put_old, put_new}
+use Rattle.page.proofs.Lengths.{tested_key}
 use Rattle.page.proofs.leaf.calls.CellPage+LeafCell.put.Goals as goal
 
 -- the cell of the pair that is put
-cell_good : (k v b : List ℕ) → b ≡ leaf_body (pair k v) → 1 ≤ length k → length k ≤ 64 → length v ≤ 128 → leaf_good b ≡ true
-cell_good k v b e s l m = ap leaf_good e ∙ good_body (pair k v) (s, l) m
-
 cell_pair : (k v b : List ℕ) → b ≡ leaf_body (pair k v) → pair_of b ≡ pair k v
 cell_pair k v b e = ap pair_of e ∙ pair_back (pair k v)
 
@@ -35,7 +33,6 @@ with_cell-requires c =
     record {
       keep = omega arith;
       skip = omega arith;
-      good = cell_good k v _ e (omega arith) (omega arith) (omega arith);
       rises = subst Rising (sym (put_old k v ps c.in-Some.i _ r c.in-Some.ensures (cell_pair k v _ e))) (insert_rising k v ps r);
     }
 
@@ -45,12 +42,11 @@ with_cell-requires-in-None c =
     let ps = pairs_in c.args.self.now.bytes in
     let k = c.args.key.now in
     let v = c.args.value.now in
-    let e = c.as_slice-in-None.ensures ∙ c.leaf_cell-cell.ensures in
+    let e = c.as_slice.ensures ∙ c.leaf_cell-cell.ensures in
     let r = rising_pairs xs (page_parts leaf_rules c.args.self.now.bytes c.args.self.now.sound).2 in
     record {
       keep = omega arith;
       skip = omega (arith, c.above-at.ensures, up_to_pairs k xs, up_to_length leaf_key k xs, length-map xs pair_of);
-      good = cell_good k v _ e (omega arith) (omega arith) (omega arith);
       rises = subst Rising (sym (put_new k v ps c.above-at.result _ c.in-None.ensures c.above-at.ensures (cell_pair k v _ e))) (insert_rising k v ps r);
     }
 
@@ -61,7 +57,7 @@ returns-in-Some c =
     let v = c.args.value.now in
     let e = c.as_slice.ensures ∙ c.leaf_cell-cell.ensures in
     let r = rising_pairs (cells_of c.args.self.now.bytes) (page_parts leaf_rules c.args.self.now.bytes c.args.self.now.sound).2 in (
-      (omega arith, omega arith),
+      tested_key k c.if-not-is_key_len.ensures,
       omega arith,
       c.with_cell.ensures ∙ ap fitted (put_old k v ps c.in-Some.i _ r c.in-Some.ensures (cell_pair k v _ e)),
     )
@@ -71,8 +67,8 @@ returns-in-None c =
     let ps = pairs_in c.args.self.now.bytes in
     let k = c.args.key.now in
     let v = c.args.value.now in
-    let e = c.as_slice-in-None.ensures ∙ c.leaf_cell-cell.ensures in (
-      (omega arith, omega arith),
+    let e = c.as_slice.ensures ∙ c.leaf_cell-cell.ensures in (
+      tested_key k c.if-not-is_key_len.ensures,
       omega arith,
       c.with_cell-in-None.ensures ∙ ap fitted (put_new k v ps c.above-at.result _ c.in-None.ensures c.above-at.ensures (cell_pair k v _ e)),
     )

@@ -7,22 +7,12 @@ use Rattle.page.proofs.Splices.{list_good}
 use Rattle.page.proofs.Tested.{every_at}
 use Rattle.page.proofs.leaf.edits.Splice+LeafCell.separator.Goals as goal
 
-pub key_of-before-requires : goal.key_of-before-requires
-key_of-before-requires c =
-    let s = c.args.self.now in
-    ap leaf_good c.get.ensures ∙ every_at leaf_good (cells_in s) (c.args.at - 1) (list_good s) (omega arith)
-
-pub key_of-after-requires : goal.key_of-after-requires
-key_of-after-requires c =
-    let s = c.args.self.now in
-    ap leaf_good c.get-2.ensures ∙ every_at leaf_good (cells_in s) c.args.at (list_good s) c.requires.within
-
 pub push-requires : goal.push-requires
 push-requires c =
     let s = c.args.self.now in
     let xs = cells_in s in
     let k = key_short (get_or xs c.args.at []) (every_at leaf_good xs c.args.at (list_good s) c.requires.within) in
-    let e = ap length (c.key_of-after.ensures ∙ ap leaf_key c.get-2.ensures) in
+    let e = ap length (c.key-after.ensures ∙ ap leaf_key c.get-2.ensures) in
     let w = c.separator_len.ensures.within in
-    let t = length-take-le (c.separator_len.result - 0) c.key_of-after.result.now (omega arith) in
+    let t = length-take-le (c.separator_len.result - 0) c.key-after.result.now (omega arith) in
     omega (arith, ap length c.new-separator.ensures, t)

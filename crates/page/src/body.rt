@@ -1,0 +1,23 @@
+ghost use Rattle.std.specs.Prelude.{◌≡◌, true};
+
+use crate::cell::Cell;
+use std::alloc::AllocError;
+use std::marker::PhantomData;
+
+mod reads;
+
+// The bytes of one good cell.
+pub(crate) struct Body<'a, C: Cell> {
+    pub(crate) bytes: &'a [u8],
+    pub(crate) kind: PhantomData<C>,
+    ghost good: { C.rules.good bytes.now ≡ true },
+}
+
+// Written out: of a struct with a ghost field and a parameter the build derives no `Clone`.
+impl<C: Cell> Clone for Body<'_, C> {
+    fn clone(&self) -> Result<Self, AllocError> {
+        Ok(*self)
+    }
+}
+
+impl<C: Cell> Copy for Body<'_, C> {}
