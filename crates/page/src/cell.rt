@@ -31,8 +31,8 @@ pub trait Cell {
     fn is_good(body: &[u8]) -> bool
         ensures { result ≡ rules.good body.now };
 
+    // The key or separator of a cell; of other bytes, what stands where one would have it.
     fn key_of(body: &[u8]) -> &[u8]
-        requires { rules.good body.now ≡ true }
         ensures { result.now ≡ rules.key body.now };
 
     // Whether a page may have this leftmost child.
@@ -95,7 +95,10 @@ impl Cell for LeafCell {
     }
 
     fn key_of(body: &[u8]) -> &[u8] {
-        &body[Self::HEAD..Self::HEAD + usize::from(body[0])]
+        let Some((head, rest)) = body.split_at_checked(Self::HEAD) else {
+            return &[];
+        };
+        rest.get(..usize::from(head[0])).unwrap_or(rest)
     }
 
     fn allows_leftmost(child: u32) -> bool {
@@ -133,7 +136,7 @@ impl Cell for BranchCell {
     }
 
     fn key_of(body: &[u8]) -> &[u8] {
-        &body[Self::HEAD..]
+        body.get(Self::HEAD..).unwrap_or(&[])
     }
 
     fn allows_leftmost(_child: u32) -> bool {
