@@ -7,7 +7,8 @@ use crate::table::entry;
 // The register before the first byte, and what it is turned by after the last.
 pub(crate) const ALL_BITS: u32 = 0xffff_ffff;
 
-// The register after some bytes more: one look into the table for each.
+// The register after some bytes more: one look into the table for each. (The lowest byte of the register is cast by
+// `as`, since it fits.)
 pub(crate) fn update(register: u32, bytes: &[u8]) -> u32
     ensures { result ≡ crc_from register bytes.now }
 {

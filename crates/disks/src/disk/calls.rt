@@ -72,6 +72,7 @@ impl<S: Stored> Reader for Disk<S> {
     {
         *buffer = [0; PAGE_SIZE];
         self.admit_at(page)?;
+        // by `as`, here and below: a `usize` is as wide at least, and has no `From` for that
         *buffer = *self.pages[page as usize].bytes();
         Ok(())
     }

@@ -40,6 +40,7 @@ impl Reader for Image {
         if page >= self.pages() {
             return Err(DeviceFault::Outside);
         }
+        // by `as`: a `usize` is as wide at least, and has no `From` for that
         let start = page as usize * PAGE_SIZE;
         buffer.copy_from_slice(&self.bytes[start..start + PAGE_SIZE]);
         Ok(())
