@@ -11,7 +11,6 @@ use Rattle.page.specs.Kinds.{Rules, leaf_rules, branch_rules, leaf_good, branch_
 use Rattle.page.specs.Layout.{cost, cells_of}
 use Rattle.page.specs.Reading.{every, rising, first_fault, sound}
 use Rattle.page.specs.Views.{pairs_in, branch_in}
-use Rattle.page.specs.CellPages.{BranchPage}
 use Rattle.page.specs.declared.fault.Cause.{Cause}
 use Rattle.page.specs.CellPages.{LeafPage}
 use Rattle.page.proofs.Children.{page_parts}
@@ -86,9 +85,6 @@ branch_has b h =
       few = omega (arith, length-map (cells_of b) cell_of, c.room);
     }
 
--- every value of the types of pages is such a page
+-- every value of the type of leaves is such a page
 pub leaf_page_has : (l : LeafPage) → LeafHas l.bytes
 leaf_page_has l = leaf_has l.bytes (none_of leaf_rules l.bytes l.sound)
-
-pub branch_page_has : (b : BranchPage) → BranchHas b.bytes
-branch_page_has b = branch_has b.bytes (none_of branch_rules b.bytes b.sound)
