@@ -21,7 +21,7 @@ impl Marks {
         }
     }
 
-    // Whether the page is marked. (By `as`, here and below: a `usize` is as wide at least, and has no `From` for that.)
+    // Whether the page is marked.
     pub fn has(&self, page: u32) -> bool
         ensures { result ≡ slice_index_or self.now.marked page false }
     {
