@@ -47,7 +47,7 @@ pub trait Cell {
     ghost small: { (b : List ℕ) → rules.good b ≡ true → 2 + length b ≤ 196 };
 }
 
-// Whether a key or a separator may have so many bytes: the one place where the code has these bounds.
+// Whether a key or a separator may have so many bytes.
 pub(crate) fn is_key_len(len: usize) -> bool
     ensures { result ≡ is_key_length len }
 {
