@@ -1,4 +1,4 @@
-ghost use Rattle.std.specs.Prelude.{◌≡◌, true};
+ghost use Rattle.std.specs.Prelude.{◌≡◌, true, ⊤};
 
 use crate::cell::Cell;
 use std::alloc::AllocError;
@@ -13,8 +13,12 @@ pub(crate) struct Body<'a, C: Cell> {
     ghost good: { C.rules.good bytes.now ≡ true },
 }
 
-// Written out: of a struct with a ghost field and a parameter the build derives no `Clone`.
+// Written out: for a struct with a ghost field and a parameter the build derives no `Clone`.
 impl<C: Cell> Clone for Body<'_, C> {
+    ghost is_clone = { λ x y. y ≡ x };
+
+    ghost is_infallible = { λ _. ⊤ };
+
     fn clone(&self) -> Result<Self, AllocError> {
         Ok(*self)
     }

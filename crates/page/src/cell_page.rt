@@ -1,4 +1,4 @@
-ghost use Rattle.std.specs.Prelude.{◌≡◌, true};
+ghost use Rattle.std.specs.Prelude.{◌≡◌, true, ⊤};
 ghost use Rattle.page.specs.Reading.{sound};
 
 use crate::cell::Cell;
@@ -16,8 +16,12 @@ pub struct CellPage<C: Cell> {
     ghost sound: { sound C.rules bytes ≡ true },
 }
 
-// Written out: of a struct with a ghost field and a parameter the build derives no `Clone`.
+// Written out: for a struct with a ghost field and a parameter the build derives no `Clone`.
 impl<C: Cell> Clone for CellPage<C> {
+    ghost is_clone = { λ x y. y ≡ x };
+
+    ghost is_infallible = { λ _. ⊤ };
+
     fn clone(&self) -> Result<Self, AllocError> {
         Ok(*self)
     }

@@ -1,4 +1,4 @@
-ghost use Rattle.std.specs.Prelude.{◌≡◌, true};
+ghost use Rattle.std.specs.Prelude.{◌≡◌, true, ⊤};
 ghost use Rattle.page.specs.Layout.{Laid, cells_of};
 ghost use Rattle.page.specs.Reading.{every};
 
@@ -18,8 +18,12 @@ pub(crate) struct Cells<'a, C: Cell> {
     ghost goods: { every C.rules.good (cells_of page.now) ≡ true },
 }
 
-// Written out: of a struct with a ghost field and a parameter the build derives no `Clone`.
+// Written out: for a struct with a ghost field and a parameter the build derives no `Clone`.
 impl<C: Cell> Clone for Cells<'_, C> {
+    ghost is_clone = { λ x y. y ≡ x };
+
+    ghost is_infallible = { λ _. ⊤ };
+
     fn clone(&self) -> Result<Self, AllocError> {
         Ok(*self)
     }
