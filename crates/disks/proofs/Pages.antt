@@ -57,7 +57,7 @@ all_turned kept f v xs ys i e n h c =
     let d : map kept ys ≡ map f ks = c.changes ∙ grind (arith, common_steps) in
     ap (map kept) (with_items_is v ys n) ∙ d ∙ ap (λ zs. map f (map kept zs)) e
 
-vec_same : {X Z : Type 0} (v : Vec X Z) (xs : List X) → xs ≡ v.items → with_items v xs ≡ v
+pub vec_same : {X Z : Type 0} (v : Vec X Z) (xs : List X) → xs ≡ v.items → with_items v xs ≡ v
 vec_same v xs e =
     let items : (with_items v xs).items ≡ v.items = with_items_is v xs (ap length e ∙ sym v.ok.0) ∙ e in
     λ i. record {

@@ -1,7 +1,8 @@
 -- The medium that a simulated disk is, and what each of its calls answers and does, by what it held before. The
 -- type that keeps its pages is S, with the members g. In each record, d is the disk before the call and e the
 -- disk after it.
-use Rattle.std.specs.Prelude.{◌≡◌, ℕ, Bool, cond, List, length, map, is_ok, Err, Result, nat_lt, slice_set}
+use Rattle.std.specs.Prelude.{◌≡◌, ℕ, Bool, false, cond, List, length, map, is_ok, Err, Result, nat_lt, slice_set}
+use Rattle.std.specs.Vec.{with_items}
 use Rattle.device.specs.Medium.{Medium, zeros, Durable}
 use Rattle.device.specs.History.{Event, History, HappensOn}
 use Rattle.device.specs.declared.fault.DeviceFault.{DeviceFault}
@@ -61,15 +62,19 @@ pub record DiskWrites {S : Type 0} {g : Ghosts S} (d : Disk S g) (p : ℕ) (b : 
   pub replaces : pages_of e ≡ cond (is_ok r) (slice_set (pages_of d) p (written g.at_once b (page_at (pages_of d) p))) (pages_of d)
   pub counts : e.fuse ≡ counted_at d p
 
--- a sync; one that is refused makes no page durable, and where all are durable, none is touched
+-- a sync; one that is refused touches no page, nor does one where all are durable. Whatever it does, the vector of the pages is
+-- the same one, but for its items.
 pub record DiskSyncs {S : Type 0} {g : Ghosts S} (d : Disk S g) (r : Result Unit DeviceFault) (e : Disk S g) : Type 0 where
   pub answers : r ≡ answer d
   pub settles : pages_of e ≡ cond (is_ok r) (map settled (pages_of d)) (pages_of d)
   pub same : Durable (disk_medium d) → e.pages ≡ d.pages
+  pub untouched : is_ok r ≡ false → e.pages ≡ d.pages
+  pub same_vector : (items : List S) × (e.pages ≡ with_items d.pages items)
   pub counts : e.fuse ≡ counted d.fuse
 
--- a power return; where all pages are durable, none is touched
+-- a power return; where all pages are durable, none is touched. The vector of the pages is the same one, but for its items.
 pub record DiskReturns {S : Type 0} {g : Ghosts S} (d e : Disk S g) : Type 0 where
   pub restores : pages_of e ≡ map restored (pages_of d)
   pub same : Durable (disk_medium d) → e.pages ≡ d.pages
+  pub same_vector : (items : List S) × (e.pages ≡ with_items d.pages items)
   pub renews : e.fuse ≡ renewed d.fuse

@@ -1,4 +1,4 @@
-use Rattle.std.proofs.Common.{◌≡◌, rules, arith}
+use Rattle.std.proofs.Common.{◌≡◌, refl, rules, arith}
 use Rattle.std.specs.Vec.{with_items}
 use Rattle.disks.specs.declared.fuse.Fuse.{Fuse}
 use Rattle.disks.specs.Fuses.{renewed}
@@ -24,6 +24,7 @@ returns g c =
       exact = record {
         restores = e;
         same = none_turned g.S.Stored.kept restored old.pages c.deref_mut-page-items.result.now l.page-items l.page-index from l.invariant;
+        same_vector = (l.page-items, refl);
         renews = search rules;
       };
     }
