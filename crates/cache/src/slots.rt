@@ -7,7 +7,7 @@ mod calls;
 
 pub const SLOTS: usize = 8;
 
-// The pages that the cache holds, each in one slot.
+// The pages that the cache holds, each in one slot of a fixed memory.
 #[derive(Clone, Copy)]
 pub struct Slots {
     all: [Slot; SLOTS],

@@ -50,7 +50,8 @@ impl From<DeviceFault> for StoreFault {
 }
 
 impl StoreFault {
-    // A page number that leads outside the device is a damaged tree, so it has the number of damage.
+    // Its number; a conversion would not say which number it gives. A page number that leads outside the device is a
+    // damaged tree, so it has the number of damage.
     pub fn number(self) -> u8
         ensures { result ≡ number self }
     {

@@ -1,5 +1,5 @@
 -- What pages hold: a leaf its pairs, a branch its children and separators.
-use Rattle.std.specs.Prelude.{◌≡◌, ℕ, ◌<◌, cond, List, [], map, length, get_or, Some, None, Option, ◌≢◌, nat_lt, slice_index_or}
+use Rattle.std.specs.Prelude.{◌≡◌, ℕ, ◌<◌, ◌≤◌, cond, List, [], map, length, get_or, Some, None, Option, ◌≢◌, nat_lt, slice_index_or}
 use Rattle.cuts.specs.Nodes.{Pair, Branch}
 use Rattle.page.specs.Kinds.{pair_of, cell_of}
 use Rattle.page.specs.Layout.{cells_of, left_of}
@@ -10,6 +10,10 @@ pairs_in bytes = map pair_of (cells_of bytes)
 
 abbrev pub branch_in : List ℕ → Branch ℕ
 branch_in bytes = record { first = left_of bytes; rest = map cell_of (cells_of bytes) }
+
+-- the branch has a child i
+abbrev pub HasChild : BranchPage → ℕ → Type 0
+HasChild b i = i ≤ length (branch_in b.bytes).rest
 
 abbrev pub leaf_pairs : LeafPage → List Pair
 leaf_pairs p = pairs_in p.bytes

@@ -3,7 +3,7 @@ use device::{PAGE_SIZE, Page};
 use page::Cause;
 use std::alloc::{AllocError, Global};
 
-// What reading finds first where one bit is turned.
+// What reading finds first where one bit is turned. (Options of a cause, since the tables count the pages with none, too.)
 #[derive(Clone, Copy)]
 struct Found {
     // with the other bytes as they are

@@ -43,23 +43,26 @@ fn header_page() -> Page {
     page
 }
 
-// The text of the record on its n-th data page.
-fn data_page(n: u8) -> Page {
-    let text: &[u8] = match n {
-        0 => b"trip 1207, 2026-11-16, 08:12 to 08:40, 11.3 km",
-        1 => b"base 4.00, distance 13.20, waiting 1.20",
-        _ => b"fare 18.40, paid in cash",
-    };
+// The text of the record, a piece for each data page. (By `as`, since the length of an array can't be converted.)
+const TEXTS: [&str; DATA_PAGES as usize] = [
+    "trip 1207, 2026-11-16, 08:12 to 08:40, 11.3 km",
+    "base 4.00, distance 13.20, waiting 1.20",
+    "fare 18.40, paid in cash",
+];
+
+fn data_page(text: &str) -> Page {
     let mut page = [0; 512];
-    page[..text.len()].copy_from_slice(text);
+    for (place, byte) in page.iter_mut().zip(text.bytes()) {
+        *place = byte;
+    }
     page
 }
 
 // Stores the record: the data pages, a sync, the header, a sync. The header is written only when all that it
 // names is durable, so that power may fail on any call.
 pub fn store<D: Device>(device: &mut D) -> Result<(), DeviceFault> {
-    for n in 0..DATA_PAGES {
-        device.write(FIRST_DATA + u32::from(n), &data_page(n))?;
+    for (page, text) in (FIRST_DATA..).zip(TEXTS) {
+        device.write(page, &data_page(text))?;
     }
     device.sync()?;
     device.write(HEADER, &header_page())?;
@@ -72,7 +75,7 @@ pub fn data_pages_held<R: Reader>(reader: &mut R) -> Result<u8, DeviceFault> {
     let mut buffer = [0; 512];
     for n in 0..DATA_PAGES {
         reader.read(FIRST_DATA + u32::from(n), &mut buffer)?;
-        if buffer == data_page(n) {
+        if buffer == data_page(TEXTS[usize::from(n)]) {
             held += 1;
         }
     }

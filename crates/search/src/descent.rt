@@ -3,10 +3,10 @@
 //
 // Two functions, and not one for both: the way to a key ends under one child, the way to the next key may go on under
 // the next child, and a text that asks at each step which of the two it is would be longer than they are.
-ghost use Rattle.std.specs.Prelude.{◌≡◌, ◌≤◌, length};
+ghost use Rattle.std.specs.Prelude.{◌≡◌, ◌≤◌};
 ghost use Rattle.device.specs.Looking.{On};
 ghost use Rattle.tree.specs.Maps.{first_above};
-ghost use Rattle.page.specs.Views.{leaf_pairs, branch_node};
+ghost use Rattle.page.specs.Views.{HasChild, leaf_pairs, branch_node};
 ghost use Rattle.search.specs.Finding.{pair_with};
 ghost use Rattle.search.specs.Following.{Descends, InLeaf, find_pair, find_next, tree_under};
 
@@ -34,7 +34,7 @@ impl Tree {
     // The tree under child i of the branch on its root.
     fn under(self, branch: &BranchPage, i: usize) -> Tree
         requires tall { 1 ≤ self.height }
-        requires within { i ≤ length (branch_node branch.now).rest }
+        requires within { HasChild branch.now i }
         ensures { result ≡ tree_under self i (branch_node branch.now) }
     {
         Tree {

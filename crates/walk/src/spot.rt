@@ -1,6 +1,6 @@
 ghost use Rattle.std.specs.Prelude.{◌≡◌, ◌+◌, ◌≤◌, false, ◌∷◌, length, drop};
 ghost use Rattle.std.specs.Option.{option_map};
-ghost use Rattle.page.specs.Views.{branch_node};
+ghost use Rattle.page.specs.Views.{HasChild, branch_node};
 ghost use Rattle.paged.specs.Walk.{slots_of};
 ghost use Rattle.walk.specs.Spots.{low_of, high_of, slot_of, low_at, high_at, bound_of};
 
@@ -19,7 +19,7 @@ pub struct Spot<'a> {
 impl Spot<'_> {
     // Child i of the branch on this page, with the separators around it for bounds.
     pub(crate) fn child<'b>(&'b self, branch: &'b BranchPage, i: usize) -> Spot<'b>
-        requires { i ≤ length (branch_node branch.now).rest }
+        requires { HasChild branch.now i }
         ensures slot { drop i (slots_of (low_of self.now) (high_of self.now) (branch_node branch.now)) ≡ slot_of result ∷ drop (i + 1) (slots_of (low_of self.now) (high_of self.now) (branch_node branch.now)) }
         ensures below { result.is_root ≡ false }
     {
@@ -33,7 +33,7 @@ impl Spot<'_> {
 
     // The separator before child i, or the lower bound of the branch.
     fn low_of<'b>(&'b self, branch: &'b BranchPage, i: usize) -> &'b [u8]
-        requires { i ≤ length (branch_node branch.now).rest }
+        requires { HasChild branch.now i }
         ensures { result.now ≡ low_at (low_of self.now) (branch_node branch.now).rest i }
     {
         if i == 0 {

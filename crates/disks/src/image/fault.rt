@@ -14,6 +14,7 @@ pub enum ImageFault {
 }
 
 impl ImageFault {
+    // Its words, for a caller that has no formatter.
     pub fn as_str(self) -> &'static str
         ensures { result.now ≡ words self }
     {
