@@ -1,14 +1,15 @@
 -- Keys among the pairs of a leaf.
-use Rattle.std.proofs.Common.{◌≡◌, ℕ, zero, suc, ◌+◌, ◌-◌, ◌<◌, ◌≤◌, Bool, true, false, cond, List, [], ◌∷◌, map, length, get_or, drop, Some, None, sym, refl, ap, ◌∙◌, ⊎_elim, arith, Decides}
+use Rattle.std.proofs.Common.{◌≡◌, ℕ, zero, suc, ◌+◌, ◌-◌, ◌<◌, ◌≤◌, true, cond, List, [], ◌∷◌, map, length, get_or, drop, Some, None, Ok, Err, Result, sym, refl, ap, ◌∙◌, ⊎_elim, arith}
 use Rattle.std.proofs.lemmas.List.{length-map}
-use Rattle.std.specs.Bool.{then_some}
-use Rattle.std.proofs.lemmas.Bool.{false≢true, cases_lt, both_ways}
+use Rattle.std.specs.Result.{result_ok}
+use Rattle.cuts.specs.Nodes.{Pair}
+use Rattle.std.proofs.lemmas.Bool.{cases_lt, both_ways}
 use Rattle.cuts.specs.Keys.{key<}
 use Rattle.cuts.proofs.Order.{less_self}
 use Rattle.page.specs.Kinds.{leaf_key, pair_of}
 use Rattle.page.specs.Places.{up_to}
 use Rattle.page.specs.Reading.{rising}
-use Rattle.page.specs.Views.{key_of, key_at, value_at, FindsKey}
+use Rattle.page.specs.Views.{key_of, key_at, value_at, FindsKey, SeeksKey}
 use Rattle.page.proofs.Places.{rises, back_above, up_to_length, up_to_front, up_to_at}
 
 pub up_to_pairs : (k : List ℕ) (xs : List (List ℕ)) → up_to key_of k (map pair_of xs) ≡ up_to leaf_key k xs
@@ -39,7 +40,7 @@ module _ (k : List ℕ) (xs : List (List ℕ)) (asc : rising leaf_key xs ≡ tru
 
   -- the last key that is at most the one sought
   module _ (i : ℕ) (s : 1 ≤ a) (p : i ≡ a - 1) where
-    found : leaf_key (get_or xs i []) ≡ k → FindsKey (map pair_of xs) k (Some i)
+    pub found : leaf_key (get_or xs i []) ≡ k → FindsKey (map pair_of xs) k (Some i)
     found h =
         let l : i < length xs = omega (arith, up_to_length leaf_key k xs) in
         (omega (arith, length-map xs pair_of), key_at_lem xs i l ∙ h)
@@ -52,12 +53,12 @@ module _ (k : List ℕ) (xs : List (List ℕ)) (asc : rising leaf_key xs ≡ tru
         (λ le. let m : j ≡ i = omega arith in n (ap (λ n. leaf_key (get_or xs n [])) (sym m) ∙ q))
         (cases_lt j i)
 
-    missing : (leaf_key (get_or xs i []) ≡ k → ⊥) → FindsKey (map pair_of xs) k None
+    pub missing : (leaf_key (get_or xs i []) ≡ k → ⊥) → FindsKey (map pair_of xs) k None
     missing n j l q =
         let h : j < length xs = omega (arith, length-map xs pair_of) in
         let r = sym (key_at_lem xs j h) ∙ q in
         ⊎_elim (λ lt. below_differs j lt n r) (λ le. above_differs j le h r) (cases_lt j a)
 
-    pub found_if : (b : Bool) → Decides b (leaf_key (get_or xs i []) ≡ k) → FindsKey (map pair_of xs) k (then_some b i)
-    found_if true d = found (d.0 refl)
-    found_if false d = missing (λ q. false≢true (d.1 q))
+pub found_in : (ps : List Pair) (k : List ℕ) (r : Result ℕ ℕ) → SeeksKey ps k r → FindsKey ps k (result_ok r)
+found_in ps k (Ok i) s = s
+found_in ps k (Err a) s = s.0

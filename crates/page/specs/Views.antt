@@ -1,8 +1,9 @@
 -- What pages hold: a leaf its pairs, a branch its children and separators.
-use Rattle.std.specs.Prelude.{◌≡◌, ℕ, ◌<◌, ◌≤◌, cond, List, [], map, length, get_or, Some, None, Option, ◌≢◌, nat_lt, slice_index_or}
+use Rattle.std.specs.Prelude.{◌≡◌, ℕ, ◌<◌, ◌≤◌, cond, List, [], map, length, get_or, Some, None, Ok, Err, Option, Result, ◌≢◌, nat_lt, slice_index_or}
 use Rattle.cuts.specs.Nodes.{Pair, Branch}
 use Rattle.page.specs.Kinds.{pair_of, cell_of}
 use Rattle.page.specs.Layout.{cells_of, left_of}
+use Rattle.page.specs.Places.{up_to}
 use Rattle.page.specs.CellPages.{LeafPage, BranchPage}
 
 abbrev pub pairs_in : List ℕ → List Pair
@@ -43,3 +44,8 @@ value_of_place i ps = cond (nat_lt i (length ps)) (Some (value_at ps i)) None
 abbrev pub FindsKey : List Pair → List ℕ → Option ℕ → Type 0
 FindsKey ps k None = (j : ℕ) → j < length ps → key_at ps j ≢ k
 FindsKey ps k (Some i) = (i < length ps) × (key_at ps i ≡ k)
+
+-- the same, and if there is none, where the first pair with a greater key stands
+abbrev pub SeeksKey : List Pair → List ℕ → Result ℕ ℕ → Type 0
+SeeksKey ps k (Ok i) = FindsKey ps k (Some i)
+SeeksKey ps k (Err a) = FindsKey ps k None × (a ≡ up_to key_of k ps)

@@ -8,7 +8,7 @@ use std::marker::PhantomData;
 
 mod makes;
 
-// A page that is being built: laid out as it will be, with a checksum of zero.
+// A page that is being built: laid out as it will be, and not sealed yet.
 #[derive(Drop)]
 pub(crate) struct Draft<C: Cell> {
     bytes: Page,

@@ -12,14 +12,10 @@ impl CellPage<BranchCell> {
     pub fn child(&self, i: usize) -> Option<u32>
         ensures { result ≡ child_of i (branch_node self.now) }
     {
-        let cells = self.cells();
-        if i > cells.len() {
-            return None;
-        }
-        if i == 0 {
-            return Some(cells.leftmost());
-        }
-        Some(cells.get(i - 1).child())
+        let Some(before) = i.checked_sub(1) else {
+            return Some(self.cells().leftmost());
+        };
+        Some(self.cells().cell(before)?.child())
     }
 
     // The separator after child i, if there is one.

@@ -69,11 +69,7 @@ impl<C: Cell> CellPage<C> {
     pub fn cell_key(&self, i: usize) -> Option<&[u8]>
         ensures { option_map (λ x. x.now) result ≡ slice_get (map C.rules.key (cells_of self.now.bytes)) i }
     {
-        let cells = self.cells();
-        if i >= cells.len() {
-            return None;
-        }
-        Some(cells.key(i))
+        Some(self.cells().cell(i)?.key())
     }
 
     // The bytes that its cells cost.

@@ -1,5 +1,6 @@
-ghost use Rattle.std.specs.Prelude.{◌≡◌, ◌<◌, ◌≤◌, true, [], length, slice_index_or};
+ghost use Rattle.std.specs.Prelude.{◌≡◌, ◌<◌, ◌≤◌, true, [], length, slice_get, slice_index_or};
 ghost use Rattle.std.specs.List.{between};
+ghost use Rattle.std.specs.Option.{option_map};
 ghost use Rattle.page.specs.Layout.{cost, cells_of, left_of};
 ghost use Rattle.page.specs.Places.{up_to};
 ghost use Rattle.page.specs.Reading.{rising};
@@ -35,6 +36,16 @@ impl<'a, C: Cell> Cells<'a, C> {
             bytes: &page[from..end],
             kind: PhantomData,
         }
+    }
+
+    // Cell i, if there is one.
+    pub(crate) fn cell(&self, i: usize) -> Option<Body<'a, C>>
+        ensures { option_map (λ b. b.bytes.now) result ≡ slice_get (cells_of self.now.page.now) i }
+    {
+        if i >= self.len() {
+            return None;
+        }
+        Some(self.get(i))
     }
 
     pub(crate) fn key(&self, i: usize) -> &'a [u8]

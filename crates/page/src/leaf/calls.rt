@@ -31,13 +31,10 @@ impl CellPage<LeafCell> {
             bytes: cell.as_slice(),
             kind: PhantomData,
         };
-        match self.find(key) {
-            Some(i) => Some(self.with_cell(i, body, i + 1)),
-            None => {
-                let at = self.above(key);
-                Some(self.with_cell(at, body, at))
-            }
-        }
+        Some(match self.seek(key) {
+            Ok(i) => self.with_cell(i, body, i + 1),
+            Err(at) => self.with_cell(at, body, at),
+        })
     }
 
     // The leaf without the pair that has this key; none, if there is no such pair.

@@ -27,11 +27,9 @@ pub fn pair_in(bytes: &Page, cell: usize) -> Option<PairParts<'_>>
     let Ok(cells) = Cells::<LeafCell>::read(bytes) else {
         return None;
     };
-    if cell >= cells.len() {
-        return None;
-    }
-    let key = cells.key(cell);
-    let value = cells.get(cell).value();
+    let body = cells.cell(cell)?;
+    let key = body.key();
+    let value = body.value();
     let key_offset = edge(bytes, cell + 1) + <LeafCell as Cell>::HEAD;
     let value_offset = key_offset + key.len();
     Some(PairParts {

@@ -1,7 +1,7 @@
 ghost use Rattle.std.specs.Prelude.{◌≡◌};
 ghost use Rattle.std.specs.Option.{option_map};
 ghost use Rattle.page.specs.Places.{up_to};
-ghost use Rattle.page.specs.Views.{leaf_pairs, key_of, key_of_place, value_of_place, FindsKey};
+ghost use Rattle.page.specs.Views.{leaf_pairs, key_of, key_of_place, value_of_place, FindsKey, SeeksKey};
 
 use crate::cell::LeafCell;
 use crate::cell_page::CellPage;
@@ -18,11 +18,7 @@ impl CellPage<LeafCell> {
     pub fn value(&self, i: usize) -> Option<&[u8]>
         ensures { option_map (λ x. x.now) result ≡ value_of_place i (leaf_pairs self.now) }
     {
-        let cells = self.cells();
-        if i >= cells.len() {
-            return None;
-        }
-        Some(cells.get(i).value())
+        Some(self.cells().cell(i)?.value())
     }
 
     // The place of the first pair with a greater key.
@@ -32,12 +28,26 @@ impl CellPage<LeafCell> {
         self.cells().place_above(key)
     }
 
+    // The place of the pair with this key, or else that of the first pair with a greater one.
+    pub(crate) fn seek(&self, key: &[u8]) -> Result<usize, usize>
+        ensures { SeeksKey (leaf_pairs self.now) key.now result }
+    {
+        let cells = self.cells();
+        let above = cells.place_above(key);
+        let Some(i) = above.checked_sub(1) else {
+            return Err(above);
+        };
+        if cells.key(i) == key {
+            Ok(i)
+        } else {
+            Err(above)
+        }
+    }
+
     // The place of the pair with this key.
     pub fn find(&self, key: &[u8]) -> Option<usize>
         ensures { FindsKey (leaf_pairs self.now) key.now result }
     {
-        let cells = self.cells();
-        let i = cells.place_above(key).checked_sub(1)?;
-        (cells.key(i) == key).then_some(i)
+        self.seek(key).ok()
     }
 }

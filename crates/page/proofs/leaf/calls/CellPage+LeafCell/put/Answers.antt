@@ -19,7 +19,7 @@ cell_pair k v b e = ap pair_of e ∙ pair_back (pair k v)
 
 pub overflow_add-i : goal.overflow_add-i
 overflow_add-i c =
-    let f = c.in-Some.ensures.0 in
+    let f = c.in-Ok.ensures.0 in
     omega (arith, length-map (cells_of c.args.self.now.bytes) pair_of, (page_parts leaf_rules c.args.self.now.bytes c.args.self.now.sound).0.room)
 
 pub with_cell-requires : goal.with_cell-requires
@@ -29,15 +29,15 @@ with_cell-requires c =
     let v = c.args.value.now in
     let e = c.as_slice.ensures ∙ c.leaf_cell-cell.ensures in
     let r = rising_pairs (cells_of c.args.self.now.bytes) (page_parts leaf_rules c.args.self.now.bytes c.args.self.now.sound).2 in
-    let f = c.in-Some.ensures.0 in
+    let f = c.in-Ok.ensures.0 in
     record {
       keep = omega arith;
       skip = omega arith;
-      rises = subst Rising (sym (put_old k v ps c.in-Some.i _ r c.in-Some.ensures (cell_pair k v _ e))) (insert_rising k v ps r);
+      rises = subst Rising (sym (put_old k v ps c.in-Ok.i _ r c.in-Ok.ensures (cell_pair k v _ e))) (insert_rising k v ps r);
     }
 
-pub with_cell-requires-in-None : goal.with_cell-requires-in-None
-with_cell-requires-in-None c =
+pub with_cell-requires-in-Err : goal.with_cell-requires-in-Err
+with_cell-requires-in-Err c =
     let xs = cells_of c.args.self.now.bytes in
     let ps = pairs_in c.args.self.now.bytes in
     let k = c.args.key.now in
@@ -46,12 +46,12 @@ with_cell-requires-in-None c =
     let r = rising_pairs xs (page_parts leaf_rules c.args.self.now.bytes c.args.self.now.sound).2 in
     record {
       keep = omega arith;
-      skip = omega (arith, c.above-at.ensures, up_to_pairs k xs, up_to_length leaf_key k xs, length-map xs pair_of);
-      rises = subst Rising (sym (put_new k v ps c.above-at.result _ c.in-None.ensures c.above-at.ensures (cell_pair k v _ e))) (insert_rising k v ps r);
+      skip = omega (arith, c.in-Err.ensures.1, up_to_pairs k xs, up_to_length leaf_key k xs, length-map xs pair_of);
+      rises = subst Rising (sym (put_new k v ps c.in-Err.at _ c.in-Err.ensures.0 c.in-Err.ensures.1 (cell_pair k v _ e))) (insert_rising k v ps r);
     }
 
-pub returns-in-Some : goal.returns-in-Some
-returns-in-Some c =
+pub returns-in-Ok : goal.returns-in-Ok
+returns-in-Ok c =
     let ps = pairs_in c.args.self.now.bytes in
     let k = c.args.key.now in
     let v = c.args.value.now in
@@ -59,16 +59,16 @@ returns-in-Some c =
     let r = rising_pairs (cells_of c.args.self.now.bytes) (page_parts leaf_rules c.args.self.now.bytes c.args.self.now.sound).2 in (
       tested_key k c.if-not-is_key_len.ensures,
       omega arith,
-      c.with_cell.ensures ∙ ap fitted (put_old k v ps c.in-Some.i _ r c.in-Some.ensures (cell_pair k v _ e)),
+      c.with_cell.ensures ∙ ap fitted (put_old k v ps c.in-Ok.i _ r c.in-Ok.ensures (cell_pair k v _ e)),
     )
 
-pub returns-in-None : goal.returns-in-None
-returns-in-None c =
+pub returns-in-Err : goal.returns-in-Err
+returns-in-Err c =
     let ps = pairs_in c.args.self.now.bytes in
     let k = c.args.key.now in
     let v = c.args.value.now in
     let e = c.as_slice.ensures ∙ c.leaf_cell-cell.ensures in (
       tested_key k c.if-not-is_key_len.ensures,
       omega arith,
-      c.with_cell-in-None.ensures ∙ ap fitted (put_new k v ps c.above-at.result _ c.in-None.ensures c.above-at.ensures (cell_pair k v _ e)),
+      c.with_cell-in-Err.ensures ∙ ap fitted (put_new k v ps c.in-Err.at _ c.in-Err.ensures.0 c.in-Err.ensures.1 (cell_pair k v _ e)),
     )
