@@ -12,8 +12,8 @@ use crate::draft::Draft;
 use crate::splice::Splice;
 
 impl<C: Cell> Splice<'_, C> {
-    // The page of the cells from one place up to another. (That it may have this leftmost child is asked here, of all its cells
-    // below, and of a finished draft: a type for that one number would be made only to be taken apart.)
+    // The page of the cells from one place up to another. (That it may have this leftmost child is asked here, for the page
+    // of all cells, and for a finished draft: a type for that one number would be made only to be taken apart.)
     pub(crate) fn part(&self, from: usize, to: usize, leftmost: u32) -> CellPage<C>
         requires ordered { from ≤ to }
         requires within { to ≤ length (cells_in self.now) }
