@@ -1,9 +1,11 @@
-ghost use Rattle.std.specs.Prelude.{◌≡◌};
+ghost use Rattle.std.specs.Prelude.{◌≡◌, Some};
 ghost use Rattle.survey.specs.Contents.{content_of};
+ghost use Rattle.survey.specs.Lines.{fill_words, content_words};
 
 use device::Page;
 use meta::Meta;
 use page::{BranchPage, LeafPage};
+use std::fmt;
 
 // How many cells a page has, and how many of its bytes they cost.
 #[derive(Clone, Copy, PartialEq, Eq, Debug)]
@@ -44,5 +46,27 @@ impl Content {
             });
         }
         Content::Unused
+    }
+}
+
+impl fmt::Display for Fill {
+    ghost output = { λ fill. Some (fill_words fill) };
+
+    fn fmt<W: fmt::Write>(&self, f: &mut fmt::Formatter<W>) -> fmt::Result {
+        let Fill { cells, cost } = *self;
+        write!(f, "cells {cells:>2}, cost {cost:>3}")
+    }
+}
+
+impl fmt::Display for Content {
+    ghost output = { λ content. Some (content_words content) };
+
+    fn fmt<W: fmt::Write>(&self, f: &mut fmt::Formatter<W>) -> fmt::Result {
+        match *self {
+            Content::Meta(meta) => write!(f, "meta    commit {}", meta.commit),
+            Content::Leaf(fill) => write!(f, "leaf    {fill}"),
+            Content::Branch(fill) => write!(f, "branch  {fill}"),
+            Content::Unused => write!(f, "unused"),
+        }
     }
 }

@@ -2,5 +2,13 @@
 #![tactic(auto)]
 
 mod contents;
+mod family;
+mod parents;
+mod row;
+mod verdict;
 
 pub use contents::{Content, Fill};
+pub use family::{Place, Tree, newest};
+pub use parents::Parents;
+pub use row::{Note, Row};
+pub use verdict::Verdict;
