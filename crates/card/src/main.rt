@@ -1,0 +1,43 @@
+// Looks at the image of a card: whether it is sound, and what each of its pages is.
+#![tactic(auto)]
+
+use anyhow::Context;
+use clap::ArgMatches;
+use std::process::ExitCode;
+
+mod checking;
+mod image_file;
+mod pages;
+mod status;
+#[cfg(test)]
+mod tests;
+mod words;
+
+use status::Status;
+use words::Task;
+
+fn answer(rt: &HostRuntime, matches: &ArgMatches<'_>) -> anyhow::Result<Status> {
+    match words::asked(matches).context("no command was given")? {
+        Task::Check(files) => checking::check(rt, files),
+        Task::Pages(file) => pages::show(rt, file),
+    }
+}
+
+fn run(rt: &HostRuntime) -> anyhow::Result<Status> {
+    let words: Vec<String> = std::env::args(rt)?.collect(rt.alloc())?;
+    match words::read(rt.alloc(), words.as_slice()) {
+        Ok(matches) => answer(rt, &matches),
+        Err(error) => {
+            error.print(rt)?;
+            Ok(Status::of_words(&error))
+        }
+    }
+}
+
+fn main(rt: HostRuntime) -> ExitCode {
+    let status = run(&rt).unwrap_or_else(|error| {
+        let _ = eprintln!(rt; "card: {error}");
+        Status::Trouble
+    });
+    status.into()
+}

@@ -1,0 +1,6 @@
+pub mod Readings
+pub mod Texts
+pub mod Looks
+pub mod Adopting
+pub mod Naming
+pub mod Finding

@@ -1,0 +1,5 @@
+pub mod Contents
+pub mod Verdicts
+pub mod Families
+pub mod Rows
+pub mod Lines
