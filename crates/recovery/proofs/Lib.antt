@@ -1,1 +1,3 @@
 pub mod Safe
+pub mod Tracks
+pub mod Models
