@@ -1,3 +1,5 @@
 pub mod Safe
 pub mod Tracks
 pub mod Models
+pub mod Calls
+pub mod Opens
