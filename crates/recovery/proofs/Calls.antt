@@ -1,5 +1,5 @@
 -- Each call that at most reads, and a power return: the store goes on as the record does.
-use Rattle.std.proofs.Common.{◌≡◌, Bool, List, [], ◌∷◌, ◌++◌, Ok, Option, Result, sym, refl, ap, ◌∙◌, subst, inl}
+use Rattle.std.proofs.Common.{Bool, List, ◌++◌, Option, Result, sym, refl, ap, ◌∙◌, subst, inl}
 use Rattle.std.specs.List.{AllByRecursion}
 use Rattle.std.proofs.ByRecursion.{All-weaker}
 use Rattle.cuts.specs.Nodes.{Pair}

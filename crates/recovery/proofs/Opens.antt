@@ -1,13 +1,12 @@
 -- An opening: what it finds is the record's commit, or the one in doubt.
-use Rattle.std.proofs.Common.{◌≡◌, ℕ, ◌+◌, ◌-◌, ◌%◌, ◌<◌, Bool, true, false, cond, ltb, ◌⊎◌, List, [], ◌∷◌, ◌++◌, Some, None, Ok, Err, Option, Result, ◌==◌, sym, refl, ap, ◌∙◌, subst, inl, inr, ⊎_elim, arith}
+use Rattle.std.proofs.Common.{is_some, ◌≡◌, ℕ, ◌+◌, ◌%◌, ◌<◌, true, false, ◌⊎◌, List, ◌++◌, Some, None, Ok, Err, Result, ◌==◌, sym, refl, ap, ◌∙◌, subst, inl, inr, arith}
 use Rattle.std.specs.List.{AllByRecursion}
-use Rattle.std.proofs.lemmas.Bool.Decides.{nat_tests}
-use Rattle.std.proofs.lemmas.Bool.{both_ways, cases_Bool, lt-ltb, le-ltb, eq-eqb, ne_eqb}
+use Rattle.std.proofs.lemmas.Bool.{both_ways, eq-eqb, ne_eqb}
 use Rattle.cuts.specs.Nodes.{Pair}
 use Rattle.device.specs.Medium.{Medium}
 use Rattle.device.specs.Calls.{Keeps}
 use Rattle.device.specs.History.{History, Leads}
-use Rattle.device.proofs.Looking.{same_pages, leads_more}
+use Rattle.device.proofs.Looking.{leads_more}
 use Rattle.faults.specs.declared.fault.StoreFault.{StoreFault}
 use Rattle.meta.specs.Layout.{meta_page}
 use Rattle.meta.specs.Test.{read_meta}
@@ -16,25 +15,22 @@ use Rattle.paged.specs.Paged.{as_tree}
 use Rattle.paged.proofs.Exactly.{walks_accept_sound_trees_lem}
 use Rattle.tree.specs.Maps.{Rising}
 use Rattle.tree.proofs.Flat.{trees_are_maps_lem}
-use Rattle.walk.specs.Checking.{fits_pages, newest_in, Holding, holding, held_by, found_on}
+use Rattle.walk.specs.Checking.{fits_pages, newest_in, holding, held_by, found_on}
 use Rattle.store.specs.Client.{answered}
-use Rattle.store.specs.Model.{Model, shut, idle, active, off, opened, opens}
-use Rattle.store.specs.Opening.{IsQuiet, map_on, Ready, Opens}
+use Rattle.store.specs.Model.{shut, idle, off}
+use Rattle.store.specs.Opening.{IsQuiet}
 use Rattle.store.specs.Snapshots.{Snapshot, IsSound, model_at}
-use Rattle.store.specs.Versions.{height_of, tree_of, pairs_held, Sound}
+use Rattle.store.specs.Versions.{height_of, tree_of, pairs_held}
 use Rattle.store.specs.declared.client.Answer.{Answer}
 use Rattle.store.specs.declared.client.Answer.TheVariants.{Number}
 use Rattle.store.specs.declared.client.Call.TheVariants.{Open}
-use Rattle.store.specs.declared.state.Held.{Held}
-use Rattle.store.specs.declared.state.State.{State}
-use Rattle.store.specs.declared.state.State.TheVariants.{Shut, Idle, InTransaction}
 use Rattle.store.proofs.Found.{read_tells}
 use Rattle.store.proofs.Kept.{meta_reads}
 use Rattle.recovery.specs.Promise.{Finds, OpensWell, Outside, Claim}
 use Rattle.recovery.specs.Record.{Record, record_of, no_working, no_doubt, opened_by}
-use Rattle.recovery.proofs.Safe.{Whole, Doubt, Mild, Safe, mine, other, Newest, itself, doubtful, newest_of}
+use Rattle.recovery.proofs.Safe.{Whole, Doubt, Mild, Safe, mine, other}
 use Rattle.recovery.proofs.Tracks.{Agrees, Tracks, settled_safe, quiet_keeps, quiet_on, quiet_calls, quieted}
-use Rattle.recovery.proofs.Models.{alike_same, alike_no_working}
+use Rattle.recovery.proofs.Models.{alike_no_working}
 
 -- what an opening finds on a medium with this version
 module _ (n : Medium) (x : Meta) (room : fits_pages n.size ≡ true) (newest : newest_in n.bytes n.size ≡ Some x) (w : Whole n x) where
@@ -63,3 +59,85 @@ record_same k c e = let f : (c == k.number + 1) ≡ false = ne_eqb _ _ (next_apa
 
 record_next : (k : Record) (c : ℕ) (d : List Pair) → c ≡ k.number + 1 → k.in_doubt ≡ Some d → opened_by k (Ok (Number c)) ≡ record_of (k.number + 1) d k.working None
 record_next k c d e q = let f : (c == k.number + 1) ≡ true = eq-eqb _ _ e in rw (f, q) refl
+
+-- An opening outside a transaction, by quiet calls: the store is then what was found on the device.
+module _ (base : Medium) (h : History) (k : Record) (s z : Snapshot) (t : History) (l : Leads s.medium t z.medium) (q : AllByRecursion IsQuiet t)
+    (i : Tracks base h k s) (sound : IsSound z) (none : k.working ≡ None) where
+  abbrev here : Medium
+  here = z.medium
+
+  abbrev x : Meta
+  x = i.version
+
+  keeps : Keeps s.medium here
+  keeps = quiet_keeps s.medium t here l q
+
+  safe : Safe base (t ++ h) k x here
+  safe = quiet_calls base h k x s.medium t here l q i.safe
+
+  leads : Leads base (t ++ h) here
+  leads = leads_more base s.medium here h t i.leads l
+
+  durable : here.on ≡ true → here.volatile (other x) ≡ false
+  durable on = keeps.stays_durable (other x) (i.settled (quiet_on s.medium t here l q on))
+
+  abbrev Opened : Result ℕ StoreFault → Type 0
+  Opened r = Tracks base (t ++ h) (opened_by k (answered Number r)) z × Claim k Open (answered Number r) here
+
+  -- as the claim has it, since there is no working map
+  claimed : (a : Result Answer StoreFault) → (here.on ≡ true → OpensWell k a here) × (here.on ≡ false → a ≡ Err off) → Claim k Open a here
+  claimed a c = subst (λ w. Outside w ((here.on ≡ true → OpensWell k a here) × (here.on ≡ false → a ≡ Err off))) (sym none) c
+
+  refused : here.on ≡ false → model_at z ≡ shut → Opened (Err off)
+  refused on m = (
+    quieted base h k (no_working k) s z t l q (alike_no_working k) sound (subst (Agrees (no_working k)) (sym m) refl) i,
+    claimed (Err off) ((λ e. absurd (both_ways here.on on e)), (λ _. refl)),
+  )
+
+  -- the version y was found, and k' is then the record
+  accepted : (k' : Record) (y : Meta) → here.on ≡ true → opened_by k (Ok (Number y.commit)) ≡ k' → (y.commit ≡ k.number) ⊎ ((y.commit ≡ k.number + 1) × (is_some k.in_doubt ≡ true))
+      → newest_in here.bytes here.size ≡ Some y → Safe base (t ++ h) k' y here → here.volatile (other y) ≡ false → k'.working ≡ None → k'.in_doubt ≡ None
+      → model_at z ≡ idle y.commit (pairs_held here.bytes y) → Opened (Ok y.commit)
+  accepted k' y on e c newest w d nw nd m = (
+    record {
+      version = y;
+      safe = subst (λ (v : Record). Safe base (t ++ h) v y here) (sym e) w;
+      leads = leads;
+      settled = λ _. d;
+      sound = sound;
+      agrees = subst (λ (v : Record). Agrees v (model_at z)) (sym e) (subst (Agrees k') (sym m) (nw, nd, w.number, w.map));
+    },
+    claimed (Ok (Number y.commit))
+    (
+      (λ _. (y.commit, refl, c, subst (λ (v : Record). Finds here y.commit v.committed) (sym e) (finds here y w.room newest w.whole y.commit k'.committed refl w.map))),
+      (λ f. absurd (both_ways here.on f on)),
+    ),
+  )
+
+  -- the record's own
+  own : here.on ≡ true → newest_in here.bytes here.size ≡ Some x → ((y : Meta) → read_meta (other x) here.size (here.bytes (other x)) ≡ Some y → y.commit < x.commit)
+      → model_at z ≡ idle x.commit (pairs_held here.bytes x) → Opened (Ok x.commit)
+  own on newest older m =
+      accepted (no_doubt k) x on (record_same k x.commit safe.number) (inl safe.number) newest
+      (settled_safe base (t ++ h) (no_doubt k) x here safe.room safe.whole safe.number safe.map safe.page safe.firm (durable on) leads (λ y e. inl (older y e)))
+      (durable on) none refl m
+
+  -- the one in doubt
+  doubted : here.on ≡ true → (y : Meta) → newest_in here.bytes here.size ≡ Some y → read_meta (other x) here.size (here.bytes (other x)) ≡ Some y → Doubt k x here y
+      → model_at z ≡ idle y.commit (pairs_held here.bytes y) → Opened (Ok y.commit)
+  doubted on y newest reads d m =
+      let p : mine y ≡ other x = ap (λ c. c % 2) d.next in
+      let o : other y ≡ mine x = let n = d.next in omega arith in
+      let e : y.commit ≡ k.number + 1 = d.next ∙ ap (λ c. c + 1) safe.number in
+      let now : here.volatile (other y) ≡ false = ap here.volatile o ∙ safe.firm in
+      accepted (record_of (k.number + 1) d.map k.working None) y on (record_next k y.commit d.map e d.in_doubt_lem) (inr (e, ap is_some d.in_doubt_lem)) newest
+      (settled_safe base (t ++ h) (record_of (k.number + 1) d.map k.working None) y here safe.room d.whole e d.pairs
+      (ap here.bytes p ∙ (read_tells (other x) here.size (here.bytes (other x)) y reads).0) (ap here.volatile p ∙ durable on) now leads (older o d.next))
+      now none refl m
+    where
+      older : other y ≡ mine x → y.commit ≡ x.commit + 1 → Mild (record_of (k.number + 1) d.map k.working None) y here (here.bytes (other y))
+      older o n v e =
+          let a : read_meta (mine x) here.size (meta_page x) ≡ Some v = subst (λ b. read_meta (mine x) here.size b ≡ Some v) safe.page (subst (λ q. read_meta q here.size (here.bytes q) ≡ Some v) o e) in
+          let b : read_meta (mine x) here.size (meta_page x) ≡ Some x = meta_reads here.size x safe.whole.good safe.whole.fits in
+          let same : x ≡ v = cc in
+          inl (subst (λ (v : Meta). v.commit < y.commit) same (omega arith))
