@@ -1,12 +1,15 @@
 -- An opening: what it finds is the record's commit, or the one in doubt.
-use Rattle.std.proofs.Common.{is_some, ◌≡◌, ℕ, ◌+◌, ◌%◌, ◌<◌, true, false, ◌⊎◌, List, ◌++◌, Some, None, Ok, Err, Result, ◌==◌, sym, refl, ap, ◌∙◌, subst, inl, inr, arith}
+use Rattle.std.proofs.Common.{is_some, ◌≡◌, ℕ, ◌+◌, ◌%◌, ◌<◌, true, false, ◌⊎◌, List, ◌++◌, Some, None, Ok, Err, Result, ◌==◌, sym, refl, ap, ◌∙◌, subst, inl, inr, arith, ⊎_elim}
 use Rattle.std.specs.List.{AllByRecursion}
-use Rattle.std.proofs.lemmas.Bool.{both_ways, eq-eqb, ne_eqb}
+use Rattle.std.proofs.lemmas.Bool.{both_ways, cases_Bool, eq-eqb, ne_eqb}
+use Rattle.store.specs.declared.state.Held.{Held}
+use Rattle.store.specs.declared.state.State.{State}
+use Rattle.store.specs.declared.state.State.TheVariants.{Shut, Idle, InTransaction}
 use Rattle.cuts.specs.Nodes.{Pair}
 use Rattle.device.specs.Medium.{Medium}
 use Rattle.device.specs.Calls.{Keeps}
 use Rattle.device.specs.History.{History, Leads}
-use Rattle.device.proofs.Looking.{leads_more}
+use Rattle.device.proofs.Looking.{same_pages, leads_more}
 use Rattle.faults.specs.declared.fault.StoreFault.{StoreFault}
 use Rattle.meta.specs.Layout.{meta_page}
 use Rattle.meta.specs.Test.{read_meta}
@@ -16,11 +19,12 @@ use Rattle.paged.proofs.Exactly.{walks_accept_sound_trees_lem}
 use Rattle.tree.specs.Maps.{Rising}
 use Rattle.tree.proofs.Flat.{trees_are_maps_lem}
 use Rattle.walk.specs.Checking.{fits_pages, newest_in, holding, held_by, found_on}
+use Rattle.faults.specs.declared.fault.StoreFault.TheVariants.{InTransaction as IsInTransaction}
 use Rattle.store.specs.Client.{answered}
-use Rattle.store.specs.Model.{shut, idle, off}
-use Rattle.store.specs.Opening.{IsQuiet}
+use Rattle.store.specs.Model.{Model, shut, idle, active, Stepped, off, opened, opens}
+use Rattle.store.specs.Opening.{map_in, IsQuiet, map_on, Ready, Opens}
 use Rattle.store.specs.Snapshots.{Snapshot, IsSound, model_at}
-use Rattle.store.specs.Versions.{height_of, tree_of, pairs_held}
+use Rattle.store.specs.Versions.{height_of, tree_of, pairs_held, Sound}
 use Rattle.store.specs.declared.client.Answer.{Answer}
 use Rattle.store.specs.declared.client.Answer.TheVariants.{Number}
 use Rattle.store.specs.declared.client.Call.TheVariants.{Open}
@@ -28,9 +32,9 @@ use Rattle.store.proofs.Found.{read_tells}
 use Rattle.store.proofs.Kept.{meta_reads}
 use Rattle.recovery.specs.Promise.{Finds, OpensWell, Outside, Claim}
 use Rattle.recovery.specs.Record.{Record, record_of, no_working, no_doubt, opened_by}
-use Rattle.recovery.proofs.Safe.{Whole, Doubt, Mild, Safe, mine, other}
+use Rattle.recovery.proofs.Safe.{Whole, Doubt, Mild, Safe, mine, other, Newest, itself, doubtful, newest_of}
 use Rattle.recovery.proofs.Tracks.{Agrees, Tracks, settled_safe, quiet_keeps, quiet_on, quiet_calls, quieted}
-use Rattle.recovery.proofs.Models.{alike_no_working}
+use Rattle.recovery.proofs.Models.{alike_same, alike_no_working}
 
 -- what an opening finds on a medium with this version
 module _ (n : Medium) (x : Meta) (room : fits_pages n.size ≡ true) (newest : newest_in n.bytes n.size ≡ Some x) (w : Whole n x) where
@@ -107,8 +111,7 @@ module _ (base : Medium) (h : History) (k : Record) (s z : Snapshot) (t : Histor
       sound = sound;
       agrees = subst (λ (v : Record). Agrees v (model_at z)) (sym e) (subst (Agrees k') (sym m) (nw, nd, w.number, w.map));
     },
-    claimed (Ok (Number y.commit))
-    (
+    claimed (Ok (Number y.commit)) (
       (λ _. (y.commit, refl, c, subst (λ (v : Record). Finds here y.commit v.committed) (sym e) (finds here y w.room newest w.whole y.commit k'.committed refl w.map))),
       (λ f. absurd (both_ways here.on f on)),
     ),
@@ -141,3 +144,55 @@ module _ (base : Medium) (h : History) (k : Record) (s z : Snapshot) (t : Histor
           let b : read_meta (mine x) here.size (meta_page x) ≡ Some x = meta_reads here.size x safe.whole.good safe.whole.fits in
           let same : x ≡ v = cc in
           inl (subst (λ (v : Meta). v.commit < y.commit) same (omega arith))
+
+  -- the medium holds the same before the calls
+  same_map : map_on s.medium here.on ≡ map_on here here.on
+  same_map = sym (λ j. map_in (found_on (same_pages keeps j) (keeps.same_size j) here.on))
+
+  abbrev OpenedAs : Result (ℕ × List Pair) StoreFault → Type 0
+  OpenedAs f = model_at z ≡ (opened f).model → Opened (opened f).answer
+
+  outside : OpenedAs (map_on s.medium here.on)
+  outside = ⊎_elim on off' (cases_Bool here.on)
+    where
+      as_found : here.on ≡ true → (y : Meta) → newest_in here.bytes here.size ≡ Some y → Whole here y → map_on s.medium here.on ≡ Ok (y.commit, pairs_held here.bytes y)
+      as_found e y newest w = same_map ∙ ap (map_on here) e ∙ ap map_in (found here y safe.room newest w)
+
+      by : here.on ≡ true → Newest k x here → OpenedAs (map_on s.medium here.on)
+      by e (itself newest older) = subst OpenedAs (sym (as_found e x newest safe.whole)) (own e newest older)
+      by e (doubtful y newest reads d) = subst OpenedAs (sym (as_found e y newest d.whole)) (doubted e y newest reads d)
+
+      on : here.on ≡ true → OpenedAs (map_on s.medium here.on)
+      on e = by e (newest_of base (t ++ h) k x here safe)
+
+      off' : here.on ≡ false → OpenedAs (map_on s.medium here.on)
+      off' e =
+          let room = i.safe.room in
+          let f : map_on s.medium here.on ≡ Err off = rw (e, room) refl in
+          subst OpenedAs (sym f) (refused e)
+
+ready : (m : Medium) (s : State) (b : Held) → Sound m s b → Ready m s b
+ready m Shut b i = tt
+ready m (Idle x) b i = tt
+ready m (InTransaction x) b i = i
+
+-- in a transaction nothing is claimed
+claimed_within : (k : Record) (a : Result Answer StoreFault) (n : Medium) (w : List Pair) → k.working ≡ Some w → Claim k Open a n
+claimed_within k a n w e = subst (λ o. Outside o ((n.on ≡ true → OpensWell k a n) × (n.on ≡ false → a ≡ Err off))) (sym e) tt
+
+module _ (s z : Snapshot) (t : History) (l : Leads s.medium t z.medium) (base : Medium) (h : History) (k : Record) (i : Tracks base h k s) where
+  abbrev Goes-on : Result Answer StoreFault → Type 0
+  Goes-on a = Tracks base (t ++ h) (opened_by k a) z × Claim k Open a z.medium
+
+  abbrev step : Model → Stepped ℕ
+  step m = opens (map_on s.medium z.medium.on) m
+
+  by_model : (m : Model) → AllByRecursion IsQuiet t → IsSound z → Agrees k m → model_at z ≡ (step m).model → Goes-on (answered Number (step m).answer)
+  by_model shut q w g e = outside base h k s z t l q i w g e
+  by_model (idle c v) q w g e = outside base h k s z t l q i w g.0 e
+  by_model (active c v u) q w g e = (quieted base h k k s z t l q (alike_same k) w (subst (Agrees k) (sym e) g) i, claimed_within k (Err IsInTransaction) z.medium u g.0)
+
+  pub open_goes : (a : Result Answer StoreFault) → (r : Result ℕ StoreFault) × (a ≡ answered Number r) × Opens s z t r → Goes-on a
+  open_goes a (r, e, o) =
+      let b = o.1 (ready s.medium s.state s.held i.sound) in
+      subst Goes-on (sym (e ∙ ap (answered Number) b.answers)) (by_model (model_at s) o.0 b.sound i.agrees b.becomes)

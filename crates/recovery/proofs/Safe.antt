@@ -269,7 +269,7 @@ newest_of base h k x m s = by (read_meta (other x) m.size (m.bytes (other x))) r
         let n = newest_by m.bytes m.size x (Some y) here e (λ v q. apart v (e ∙ q)) in
         ⊎_elim
         (λ l. let f : ltb x.commit y.commit ≡ false = le-ltb _ _ (omega arith) in
-            itself (rw f at n) (λ v q. let same : y ≡ v = cc in subst (λ (v : Meta). v.commit < x.commit) same l))
+        itself (rw f at n) (λ v q. let same : y ≡ v = cc in subst (λ (v : Meta). v.commit < x.commit) same l))
         (λ d. let g = d.next in let f : ltb x.commit y.commit ≡ true = lt-ltb _ _ (omega arith) in
-            doubtful y (rw f at n) e d)
+        doubtful y (rw f at n) e d)
         (s.now y e)
