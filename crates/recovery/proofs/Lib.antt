@@ -3,3 +3,4 @@ pub mod Tracks
 pub mod Models
 pub mod Calls
 pub mod Opens
+pub mod Commits

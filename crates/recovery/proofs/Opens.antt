@@ -32,7 +32,7 @@ use Rattle.store.proofs.Found.{read_tells}
 use Rattle.store.proofs.Kept.{meta_reads}
 use Rattle.recovery.specs.Promise.{Finds, OpensWell, Outside, Claim}
 use Rattle.recovery.specs.Record.{Record, record_of, no_working, no_doubt, opened_by}
-use Rattle.recovery.proofs.Safe.{Whole, Doubt, Mild, Safe, mine, other, Newest, itself, doubtful, newest_of}
+use Rattle.recovery.proofs.Safe.{Whole, Doubt, Mild, Safe, mine, other, Newest, itself, doubtful, newest_of, mild_before}
 use Rattle.recovery.proofs.Tracks.{Agrees, Tracks, settled_safe, quiet_keeps, quiet_on, quiet_calls, quieted}
 use Rattle.recovery.proofs.Models.{alike_same, alike_no_working}
 
@@ -135,15 +135,8 @@ module _ (base : Medium) (h : History) (k : Record) (s z : Snapshot) (t : Histor
       let now : here.volatile (other y) ≡ false = ap here.volatile o ∙ safe.firm in
       accepted (record_of (k.number + 1) d.map k.working None) y on (record_next k y.commit d.map e d.in_doubt_lem) (inr (e, ap is_some d.in_doubt_lem)) newest
       (settled_safe base (t ++ h) (record_of (k.number + 1) d.map k.working None) y here safe.room d.whole e d.pairs
-      (ap here.bytes p ∙ (read_tells (other x) here.size (here.bytes (other x)) y reads).0) (ap here.volatile p ∙ durable on) now leads (older o d.next))
+      (ap here.bytes p ∙ (read_tells (other x) here.size (here.bytes (other x)) y reads).0) (ap here.volatile p ∙ durable on) now leads (mild_before (record_of (k.number + 1) d.map k.working None) x y here d.next safe.whole safe.page))
       now none refl m
-    where
-      older : other y ≡ mine x → y.commit ≡ x.commit + 1 → Mild (record_of (k.number + 1) d.map k.working None) y here (here.bytes (other y))
-      older o n v e =
-          let a : read_meta (mine x) here.size (meta_page x) ≡ Some v = subst (λ b. read_meta (mine x) here.size b ≡ Some v) safe.page (subst (λ q. read_meta q here.size (here.bytes q) ≡ Some v) o e) in
-          let b : read_meta (mine x) here.size (meta_page x) ≡ Some x = meta_reads here.size x safe.whole.good safe.whole.fits in
-          let same : x ≡ v = cc in
-          inl (subst (λ (v : Meta). v.commit < y.commit) same (omega arith))
 
   -- the medium holds the same before the calls
   same_map : map_on s.medium here.on ≡ map_on here here.on

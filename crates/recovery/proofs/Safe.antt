@@ -273,3 +273,12 @@ newest_of base h k x m s = by (read_meta (other x) m.size (m.bytes (other x))) r
         (λ d. let g = d.next in let f : ltb x.commit y.commit ≡ true = lt-ltb _ _ (omega arith) in
         doubtful y (rw f at n) e d)
         (s.now y e)
+
+-- once the next version counts, that before it is the older one
+pub mild_before : (k : Record) (x y : Meta) (m : Medium) → y.commit ≡ x.commit + 1 → Whole m x → m.bytes (mine x) ≡ meta_page x → Mild k y m (m.bytes (other y))
+mild_before k x y m n w page v e =
+    let o : other y ≡ mine x = omega arith in
+    let a : read_meta (mine x) m.size (meta_page x) ≡ Some v = subst (λ b. read_meta (mine x) m.size b ≡ Some v) page (subst (λ q. read_meta q m.size (m.bytes q) ≡ Some v) o e) in
+    let b : read_meta (mine x) m.size (meta_page x) ≡ Some x = meta_reads m.size x w.good w.fits in
+    let same : x ≡ v = cc in
+    inl (subst (λ (v : Meta). v.commit < y.commit) same (omega arith))
