@@ -11,7 +11,6 @@ use Rattle.device.specs.Calls.{Keeps}
 use Rattle.device.specs.History.{History, Leads}
 use Rattle.device.proofs.Looking.{same_pages, leads_more}
 use Rattle.faults.specs.declared.fault.StoreFault.{StoreFault}
-use Rattle.meta.specs.Layout.{meta_page}
 use Rattle.meta.specs.Test.{read_meta}
 use Rattle.meta.specs.declared.Meta.{Meta}
 use Rattle.paged.specs.Paged.{as_tree}
@@ -29,10 +28,9 @@ use Rattle.store.specs.declared.client.Answer.{Answer}
 use Rattle.store.specs.declared.client.Answer.TheVariants.{Number}
 use Rattle.store.specs.declared.client.Call.TheVariants.{Open}
 use Rattle.store.proofs.Found.{read_tells}
-use Rattle.store.proofs.Kept.{meta_reads}
 use Rattle.recovery.specs.Promise.{Finds, OpensWell, Outside, Claim}
 use Rattle.recovery.specs.Record.{Record, record_of, no_working, no_doubt, opened_by}
-use Rattle.recovery.proofs.Safe.{Whole, Doubt, Mild, Safe, mine, other, Newest, itself, doubtful, newest_of, mild_before}
+use Rattle.recovery.proofs.Safe.{Whole, Doubt, Safe, mine, other, Newest, itself, doubtful, newest_of, mild_before}
 use Rattle.recovery.proofs.Tracks.{Agrees, Tracks, settled_safe, quiet_keeps, quiet_on, quiet_calls, quieted}
 use Rattle.recovery.proofs.Models.{alike_same, alike_no_working}
 
