@@ -4,3 +4,5 @@ pub mod Models
 pub mod Calls
 pub mod Opens
 pub mod Commits
+pub mod EachCall
+pub mod Starts
