@@ -6,3 +6,4 @@ pub mod Opens
 pub mod Commits
 pub mod EachCall
 pub mod Starts
+pub mod Runs
