@@ -1,18 +1,26 @@
 -- A run, call after call.
-use Rattle.std.proofs.Common.{◌≡◌, Bool, true, false, List, [], ◌∷◌, ◌++◌, Ok, Result, sym, refl, ap, ◌∙◌, subst, append_assoc, append-nil}
+use Rattle.std.proofs.Common.{◌≡◌, Bool, true, false, cond, List, [], ◌∷◌, ◌++◌, Ok, Err, Result, sym, refl, ap, ◌∙◌, subst, append_assoc, append-nil}
 use Rattle.device.specs.Medium.{Medium}
 use Rattle.device.specs.History.{History, Leads}
+use Rattle.device.specs.declared.Reader.{Ghosts}
 use Rattle.faults.specs.declared.fault.StoreFault.{StoreFault}
+use Rattle.faults.specs.declared.fault.StoreFault.TheVariants.{PageCount}
 use Rattle.store.specs.Acting.{Acts}
 use Rattle.store.specs.Client.{Does}
 use Rattle.store.specs.Formatting.{Fresh, FormatsTo}
-use Rattle.store.specs.Model.{Model, shut, idle, active, formats}
-use Rattle.store.specs.Snapshots.{Snapshot, IsSound}
+use Rattle.store.specs.Model.{Model, shut, idle, active, off, formats}
+use Rattle.store.specs.Snapshots.{Snapshot, snapshot, IsSound, StoreActs}
+use Rattle.store.specs.Versions.{Sound, model_of}
 use Rattle.store.specs.declared.client.Answer.{Answer}
 use Rattle.store.specs.declared.client.Call.{Call}
+use Rattle.store.specs.declared.state.State.TheVariants.{Shut}
+use Rattle.store.specs.declared.store.Store.{Store}
+use Rattle.walk.specs.Checking.{fits_pages}
 use Rattle.recovery.specs.Premise.{Premise}
 use Rattle.recovery.specs.Promise.{Segment, Claims, Passes, calls_of, Keeps}
 use Rattle.recovery.specs.Record.{Record, fresh, recorded}
+use Rattle.recovery.specs.Runs.{Fails}
+use Rattle.recovery.specs.declared.fault.RunFault.TheVariants.{Format}
 use Rattle.recovery.proofs.EachCall.{each_goes}
 use Rattle.recovery.proofs.Starts.{starts}
 use Rattle.recovery.proofs.Tracks.{Tracks}
@@ -62,14 +70,30 @@ formats_shut false true (idle c m) e = cc
 formats_shut on false (idle c m) e = cc
 formats_shut on fits (active c m w) e = cc
 
-module _ {P : History → Type 0} {Q : History → Type 0} (s z : Snapshot) where
-  pub going_none : IsSound s → Acts P s.medium Q z.medium (λ t. FormatsTo s z (Ok tt)) → Going P s.medium Q z [] []
-  going_none i w = record {
+-- or is refused, on a store that is shut, for the number of pages or because the device is off
+formats_refused : (on fits : Bool) (f : StoreFault) → Err f ≡ (formats on fits shut).answer → f ≡ cond fits off PageCount
+formats_refused on false f e = cc
+formats_refused true true f e = cc
+formats_refused false true f e = cc
+
+-- Formatting a store that is shut, which stands on a device that was d.
+module _ {D : Type 0} (r : Ghosts D) (d : D) (s z : Store D) (same : s.device ≡ d) (closed : s.state ≡ Shut) where
+  sound : IsSound (snapshot r s)
+  sound = subst (λ v. Sound (r.medium s.device) v s.held) (sym closed) tt
+
+  pub going_none : StoreActs r s z (λ s z t. FormatsTo s z (Ok tt)) → Going (r.past d) (r.medium d) (r.past z.device) (snapshot r z) [] []
+  going_none w = subst (λ (e : D). Going (r.past e) (r.medium e) (r.past z.device) (snapshot r z) [] []) same (record {
     runs = λ h p.
         let b = w.follows h p in
-        let o = b.4.1 i in
-        (b.0, z.medium, [], fresh, b.1, b.2, b.4.0, refl, (λ ds es ts c. c), (λ _. starts z b.4.0 o.sound (o.becomes ∙ formats_shut _ _ _ o.answers)));
-  }
+        let o = b.4.1 sound in
+        (b.0, r.medium z.device, [], fresh, b.1, b.2, b.4.0, refl, (λ ds es ts c. c), (λ _. starts (snapshot r z) b.4.0 o.sound (o.becomes ∙ formats_shut _ _ _ o.answers)));
+  })
+
+  pub format_fails : (f : StoreFault) → StoreActs r s z (λ s z t. FormatsTo s z (Err f)) → Fails (r.past d) (r.medium d) (Format f)
+  format_fails f w = subst (λ (e : D). Fails (r.past e) (r.medium e) (Format f)) same
+      (λ h p.
+      let o = (w.follows h p).4.1 sound in
+      formats_refused _ _ f (o.answers ∙ ap (λ v. (formats (r.medium z.device).on (fits_pages (r.medium s.device).size) (model_of (r.medium s.device).bytes v)).answer) closed))
 
 module _ {P : History → Type 0} {m : Medium} {Q : History → Type 0} {R : History → Type 0} (s z : Snapshot) (cs : List Call) (bs : List (Result Answer StoreFault)) (c : Call) (a : Result Answer StoreFault) where
   -- one call more
