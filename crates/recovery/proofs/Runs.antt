@@ -25,7 +25,7 @@ use Rattle.recovery.proofs.EachCall.{each_goes}
 use Rattle.recovery.proofs.Starts.{starts}
 use Rattle.recovery.proofs.Tracks.{Tracks}
 
-premise_before : (base : Medium) (t h : History) → Premise base (t ++ h) → Premise base h
+pub premise_before : (base : Medium) (t h : History) → Premise base (t ++ h) → Premise base h
 premise_before base [] h p = p
 premise_before base (s ∷ t) h p = premise_before base t h p.0
 
@@ -45,13 +45,13 @@ passes_more m (r ∷ ss) n s p l = (p.0, passes_more r.after ss n s p.1 l)
 -- all of them.
 abbrev pub Reaches : Medium → List Call → List (Result Answer StoreFault) → List Segment → Record → Type 0
 Reaches base cs bs ss k =
-    (ds : List Call) (es : List (Result Answer StoreFault)) (ts : List Segment) → Claims base (calls_of ss) k ds es ts
-    → Claims base [] fresh (cs ++ ds) (bs ++ es) (ss ++ ts)
+    (ds : List Call) (es : List (Result Answer StoreFault)) (ts : List Segment) → Claims (Premise base) (calls_of ss) k ds es ts
+    → Claims (Premise base) [] fresh (cs ++ ds) (bs ++ es) (ss ++ ts)
 
-claims_as : (base : Medium) (h : History) (k : Record) (cs cs' : List Call) (bs bs' : List (Result Answer StoreFault)) (ss ss' : List Segment) → cs ≡ cs' → bs ≡ bs' → ss ≡ ss'
-    → Claims base h k cs bs ss → Claims base h k cs' bs' ss'
-claims_as base h k cs cs' bs bs' ss ss' e f g c =
-    subst (λ (x : List Call). Claims base h k x bs' ss') e (subst (λ (y : List (Result Answer StoreFault)). Claims base h k cs y ss') f (subst (λ (z : List Segment). Claims base h k cs bs z) g c))
+claims_as : (asked : History → Type 0) (h : History) (k : Record) (cs cs' : List Call) (bs bs' : List (Result Answer StoreFault)) (ss ss' : List Segment) → cs ≡ cs' → bs ≡ bs' → ss ≡ ss'
+    → Claims asked h k cs bs ss → Claims asked h k cs' bs' ss'
+claims_as asked h k cs cs' bs bs' ss ss' e f g c =
+    subst (λ (x : List Call). Claims asked h k x bs' ss') e (subst (λ (y : List (Result Answer StoreFault)). Claims asked h k cs y ss') f (subst (λ (z : List Segment). Claims asked h k cs bs z) g c))
 
 -- the store z, whose device has the histories Q, after these calls from the medium m on, where P were its histories
 pub record Going (P : History → Type 0) (m : Medium) (Q : History → Type 0) (z : Snapshot) (cs : List Call) (bs : List (Result Answer StoreFault)) : Type 0 where
@@ -119,8 +119,8 @@ module _ {P : History → Type 0} {m : Medium} {Q : History → Type 0} {R : His
           g.6,
           passes_more m₀ ss s.medium r g.7 y.2,
           λ ds es ts q.
-              claims_as m₀ [] fresh _ _ _ _ _ _ (sym (append_assoc cs (c ∷ []) ds)) (sym (append_assoc bs (a ∷ []) es)) (sym (append_assoc ss (r ∷ []) ts))
-              (g.8 (c ∷ ds) (a ∷ es) (r ∷ ts) ((λ v. (goes v).1), subst (λ v. Claims m₀ v (recorded k c a) ds es ts) e q)),
+              claims_as (Premise m₀) [] fresh _ _ _ _ _ _ (sym (append_assoc cs (c ∷ []) ds)) (sym (append_assoc bs (a ∷ []) es)) (sym (append_assoc ss (r ∷ []) ts))
+              (g.8 (c ∷ ds) (a ∷ es) (r ∷ ts) ((λ v. (goes v).1), subst (λ v. Claims (Premise m₀) v (recorded k c a) ds es ts) e q)),
           λ q. subst (λ v. Tracks m₀ v (recorded k c a) z) (sym e) (goes (subst (Premise m₀) e q)).0,
         );
   }
@@ -128,4 +128,4 @@ module _ {P : History → Type 0} {m : Medium} {Q : History → Type 0} {R : His
 pub going_all : {P : History → Type 0} {m : Medium} {Q : History → Type 0} (z : Snapshot) (cs : List Call) (bs : List (Result Answer StoreFault)) → Going P m Q z cs bs → Keeps P m Q z.medium cs bs
 going_all z cs bs w = λ h p.
     let g = w.runs h p in
-    (g.0, g.1, g.2, g.4, g.5, g.6, g.7, claims_as g.1 [] fresh _ _ _ _ _ _ (append-nil cs) (append-nil bs) (append-nil g.2) (g.8 [] [] [] tt))
+    (g.0, g.1, g.2, g.4, g.5, g.6, g.7, claims_as (Premise g.1) [] fresh _ _ _ _ _ _ (append-nil cs) (append-nil bs) (append-nil g.2) (g.8 [] [] [] tt))

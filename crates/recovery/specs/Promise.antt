@@ -54,16 +54,16 @@ pub record Segment : Type 0 where
   pub calls : History
   pub after : Medium
 
--- Of each call in turn: if no power return up to its end made up a meta page, it answered as promised. The calls h of the
--- device led from the medium `base` to the first of these calls, where the record was k.
-abbrev pub Claims : (base : Medium) (h : History) → Record → List Call → List (Result Answer StoreFault) → List Segment → Type 0
-Claims base h k [] [] [] = Unit {0}
-Claims base h k [] [] (s ∷ ss) = ⊥
-Claims base h k [] (a ∷ bs) ss = ⊥
-Claims base h k (c ∷ cs) [] ss = ⊥
-Claims base h k (c ∷ cs) (a ∷ bs) [] = ⊥
-Claims base h k (c ∷ cs) (a ∷ bs) (s ∷ ss) =
-    (Premise base (s.calls ++ h) → Claim k c a s.after) × Claims base (s.calls ++ h) (recorded k c a) cs bs ss
+-- Of each call in turn: where what is asked of the device's calls up to its end holds of them, it answered as promised.
+-- The calls h came before these, and k was the record then.
+abbrev pub Claims : (asked : History → Type 0) → (h : History) → Record → List Call → List (Result Answer StoreFault) → List Segment → Type 0
+Claims asked h k [] [] [] = Unit {0}
+Claims asked h k [] [] (s ∷ ss) = ⊥
+Claims asked h k [] (a ∷ bs) ss = ⊥
+Claims asked h k (c ∷ cs) [] ss = ⊥
+Claims asked h k (c ∷ cs) (a ∷ bs) [] = ⊥
+Claims asked h k (c ∷ cs) (a ∷ bs) (s ∷ ss) =
+    (asked (s.calls ++ h) → Claim k c a s.after) × Claims asked (s.calls ++ h) (recorded k c a) cs bs ss
 
 -- the segments one after another: they lead from m to n; and their calls, newest first
 abbrev pub Passes : Medium → List Segment → Medium → Type 0
@@ -75,8 +75,8 @@ calls_of [] = []
 calls_of (s ∷ ss) = calls_of ss ++ s.calls
 
 -- Whichever history led to the device, the calls that formatted it, and then those of each call of the script, lead on
--- from there; and each answer is as promised.
+-- from there; and each answer is as promised, if no power return up to it made up a meta page.
 abbrev pub Keeps : (P : History → Type 0) → Medium → (Q : History → Type 0) → Medium → List Call → List (Result Answer StoreFault) → Type 0
 Keeps P m Q n script answers = (h : History) → P h
     → (t : History) × (m₀ : Medium) × (ss : List Segment)
-    × Q (calls_of ss ++ (t ++ h)) × Leads m t m₀ × Fresh m₀ × Passes m₀ ss n × Claims m₀ [] fresh script answers ss
+    × Q (calls_of ss ++ (t ++ h)) × Leads m t m₀ × Fresh m₀ × Passes m₀ ss n × Claims (Premise m₀) [] fresh script answers ss
