@@ -125,7 +125,7 @@ module _ {P : History → Type 0} {m : Medium} {Q : History → Type 0} {R : His
         );
   }
 
-pub going_all : {P : History → Type 0} {m : Medium} {Q : History → Type 0} (z : Snapshot) (cs : List Call) (bs : List (Result Answer StoreFault)) → Going P m Q z cs bs → Keeps P m Q z.medium cs bs
+pub going_all : {P : History → Type 0} {m : Medium} {Q : History → Type 0} (z : Snapshot) (cs : List Call) (bs : List (Result Answer StoreFault)) → Going P m Q z cs bs → Keeps Premise P m Q z.medium cs bs
 going_all z cs bs w = λ h p.
     let g = w.runs h p in
     (g.0, g.1, g.2, g.4, g.5, g.6, g.7, claims_as (Premise g.1) [] fresh _ _ _ _ _ _ (append-nil cs) (append-nil bs) (append-nil g.2) (g.8 [] [] [] tt))

@@ -14,7 +14,6 @@ use Rattle.store.specs.declared.client.Answer.TheVariants.{Number}
 use Rattle.store.specs.declared.client.Call.{Call}
 use Rattle.store.specs.declared.client.Call.TheVariants.{Open, Begin, Get, After, Abort, Commit, PowerReturn}
 use Rattle.recovery.specs.Record.{Record, fresh, recorded}
-use Rattle.recovery.specs.Premise.{Premise}
 
 -- what an opening found on the medium: commit c, with exactly these pairs, in rising order, in a tree whose leaves lie
 -- equally deep (as those of every PagedTree do) and which has at most seven levels
@@ -75,8 +74,8 @@ calls_of [] = []
 calls_of (s ∷ ss) = calls_of ss ++ s.calls
 
 -- Whichever history led to the device, the calls that formatted it, and then those of each call of the script, lead on
--- from there; and each answer is as promised, if no power return up to it made up a meta page.
-abbrev pub Keeps : (P : History → Type 0) → Medium → (Q : History → Type 0) → Medium → List Call → List (Result Answer StoreFault) → Type 0
-Keeps P m Q n script answers = (h : History) → P h
+-- from there; and each answer is as promised, if what is asked of the calls on the formatted device holds of those up to it.
+abbrev pub Keeps : (asked : Medium → History → Type 0) → (P : History → Type 0) → Medium → (Q : History → Type 0) → Medium → List Call → List (Result Answer StoreFault) → Type 0
+Keeps asked P m Q n script answers = (h : History) → P h
     → (t : History) × (m₀ : Medium) × (ss : List Segment)
-    × Q (calls_of ss ++ (t ++ h)) × Leads m t m₀ × Fresh m₀ × Passes m₀ ss n × Claims (Premise m₀) [] fresh script answers ss
+    × Q (calls_of ss ++ (t ++ h)) × Leads m t m₀ × Fresh m₀ × Passes m₀ ss n × Claims (asked m₀) [] fresh script answers ss

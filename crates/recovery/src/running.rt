@@ -1,6 +1,5 @@
-ghost use Rattle.std.specs.Prelude.{MatchResult};
-ghost use Rattle.recovery.specs.Promise.{Keeps};
-ghost use Rattle.recovery.specs.Runs.{Fails};
+ghost use Rattle.recovery.specs.Premise.{Premise};
+ghost use Rattle.recovery.specs.Runs.{RunsTo};
 
 use crate::fault::RunFault;
 use device::PowerCycle;
@@ -21,7 +20,7 @@ pub fn run<D: PowerCycle + Drop>(
     device: D,
     script: &[Call],
 ) -> Result<Outcome<D>, RunFault>
-    ensures { MatchResult result (λ o. Keeps (D.Reader.past device) (D.Reader.medium device) (D.Reader.past o.store.device) (D.Reader.medium o.store.device) script.now o.answers.items) (λ f. Fails (D.Reader.past device) (D.Reader.medium device) f) }
+    ensures { RunsTo D.Reader.past D.Reader.medium Premise (D.Reader.past device) device script.now result }
 {
     let mut store = Store::new(device);
     store.format()?;
