@@ -20,3 +20,72 @@ pub fn run_on_disk<S: Stored>(
 {
     run(heap, disk, script)
 }
+
+#[cfg(test)]
+mod tests {
+    use super::*;
+    use device::DeviceFault;
+    use disks::{AtOnce, AtSync};
+    use faults::StoreFault;
+    use std::test::Fail;
+    use store::Answer;
+
+    // The calls of a format have the numbers 1 to 6, those of the first opening 7 to 10, and those of the commits 11 to 13
+    // and 14 to 16: a sync, the meta page, a sync.
+    fn found<S: Stored>(rt: &HostRuntime, limit: u64) -> Result<Result<Answer, StoreFault>, Fail> {
+        let disk: Disk<S> = Disk::new(rt.alloc(), 16, limit)?;
+        let script = [
+            Call::Open,
+            Call::Begin,
+            Call::Commit,
+            Call::Begin,
+            Call::Commit,
+            Call::PowerReturn,
+            Call::Open,
+        ];
+        let Outcome { store: _, answers } = run_on_disk(rt.alloc(), disk, &script)?;
+        Ok(*answers.last().ok_or("no answer")?)
+    }
+
+    // A write that was durable at once is found, also where the sync after it was refused.
+    #[test]
+    fn found_at_once(rt: HostRuntime) -> Result<(), Fail> {
+        for (limit, number) in (7..).zip([0, 0, 0, 0, 0, 0, 1, 1, 1, 2, 2]) {
+            assert_eq!(rt;
+                found::<AtOnce>(&rt, limit)?,
+                Ok(Answer::Number(number)),
+                "{limit}"
+            );
+        }
+        Ok(())
+    }
+
+    // A commit is found if its last sync was answered.
+    #[test]
+    fn found_at_sync(rt: HostRuntime) -> Result<(), Fail> {
+        for (limit, number) in (7..).zip([0, 0, 0, 0, 0, 0, 0, 1, 1, 1, 2]) {
+            assert_eq!(rt;
+                found::<AtSync>(&rt, limit)?,
+                Ok(Answer::Number(number)),
+                "{limit}"
+            );
+        }
+        Ok(())
+    }
+
+    // A format on which power fails, and one on too few pages, are refused for that.
+    #[test]
+    fn refused(rt: HostRuntime) -> Result<(), Fail> {
+        let cut: Disk<AtOnce> = Disk::new(rt.alloc(), 16, 6)?;
+        assert_eq!(rt;
+            run_on_disk(rt.alloc(), cut, &[]).err(),
+            Some(RunFault::Format(StoreFault::from(DeviceFault::Off)))
+        );
+        let small: Disk<AtSync> = Disk::new(rt.alloc(), 15, 0)?;
+        assert_eq!(rt;
+            run_on_disk(rt.alloc(), small, &[]).err(),
+            Some(RunFault::Format(StoreFault::PageCount))
+        );
+        Ok(())
+    }
+}
