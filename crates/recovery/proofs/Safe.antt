@@ -4,7 +4,7 @@ use Rattle.std.proofs.Common.{◌≡◌, ℕ, ◌+◌, ◌%◌, ◌<◌, ◌≤�
 use Rattle.std.specs.List.{AllByRecursion}
 use Rattle.std.proofs.ByRecursion.{All-weaker}
 use Rattle.std.proofs.lemmas.Bool.Decides.{nat_tests}
-use Rattle.std.proofs.lemmas.Bool.{cases_Bool, cases_eq, eq-eqb, both_ways}
+use Rattle.std.proofs.lemmas.Bool.{cases_Bool, cases_eq, eq-eqb, lt-ltb, le-ltb, both_ways}
 use Rattle.device.specs.Medium.{Medium}
 use Rattle.device.specs.Calls.{Keeps, KeepsBut, Returns}
 use Rattle.device.specs.History.{Event, did_write, power_returned, step, History, last_durable, last_written, written_by}
@@ -252,3 +252,33 @@ newest_by f size x o a b ne = ⊎_elim even odd (cases_eq (x.commit % 2) 0)
         by : (o : Option Meta) → ((y : Meta) → o ≡ Some y → y.commit ≡ x.commit → ⊥) → newer o (Some x) ≡ pick x o
         by None n = refl
         by (Some y) n = let q = n y refl in grind (arith, nat_tests)
+
+-- which of the two versions is the newest
+pub newest_of : (base : Medium) (h : History) (k : Record) (x : Meta) (m : Medium) → Safe base h k x m → Newest k x m
+newest_of base h k x m s = by (read_meta (other x) m.size (m.bytes (other x))) refl
+  where
+    here : read_meta (mine x) m.size (m.bytes (mine x)) ≡ Some x
+    here = ap (read_meta (mine x) m.size) s.page ∙ meta_reads m.size x s.whole.good s.whole.fits
+
+    apart : (y : Meta) → read_meta (other x) m.size (m.bytes (other x)) ≡ Some y → y.commit ≡ x.commit → ⊥
+    apart y e q = ⊎_elim (λ l. omega arith) (λ d. let n = d.next in omega arith) (s.now y e)
+
+    by : (o : Option Meta) → read_meta (other x) m.size (m.bytes (other x)) ≡ o → Newest k x m
+    by None e = itself (newest_by m.bytes m.size x None here e (λ y q. cc)) (λ y q. cc)
+    by (Some y) e =
+        let n = newest_by m.bytes m.size x (Some y) here e (λ v q. apart v (e ∙ q)) in
+        ⊎_elim
+        (λ l. let f : ltb x.commit y.commit ≡ false = le-ltb _ _ (omega arith) in
+        itself (rw f at n) (λ v q. let same : y ≡ v = cc in subst (λ (v : Meta). v.commit < x.commit) same l))
+        (λ d. let g = d.next in let f : ltb x.commit y.commit ≡ true = lt-ltb _ _ (omega arith) in
+        doubtful y (rw f at n) e d)
+        (s.now y e)
+
+-- once the next version counts, that before it is the older one
+pub mild_before : (k : Record) (x y : Meta) (m : Medium) → y.commit ≡ x.commit + 1 → Whole m x → m.bytes (mine x) ≡ meta_page x → Mild k y m (m.bytes (other y))
+mild_before k x y m n w page v e =
+    let o : other y ≡ mine x = omega arith in
+    let a : read_meta (mine x) m.size (meta_page x) ≡ Some v = subst (λ b. read_meta (mine x) m.size b ≡ Some v) page (subst (λ q. read_meta q m.size (m.bytes q) ≡ Some v) o e) in
+    let b : read_meta (mine x) m.size (meta_page x) ≡ Some x = meta_reads m.size x w.good w.fits in
+    let same : x ≡ v = cc in
+    inl (subst (λ (v : Meta). v.commit < y.commit) same (omega arith))

@@ -1,3 +1,4 @@
 pub mod Record
 pub mod Premise
 pub mod Promise
+pub mod Runs

@@ -1,5 +1,5 @@
 -- The promise on power loss, over whole runs of calls.
-use Rattle.std.specs.Prelude.{◌≡◌, ℕ, ◌+◌, ◌-◌, ◌≤◌, true, ◌⊎◌, List, [], ◌∷◌, ◌++◌, is_some, Some, None, Ok, Option, Result}
+use Rattle.std.specs.Prelude.{◌≡◌, ℕ, ◌+◌, ◌-◌, ◌≤◌, true, false, ◌⊎◌, List, [], ◌∷◌, ◌++◌, is_some, Some, None, Ok, Err, Option, Result}
 use Rattle.device.specs.Medium.{Medium}
 use Rattle.device.specs.History.{History, Leads}
 use Rattle.cuts.specs.Nodes.{Pair}
@@ -8,12 +8,12 @@ use Rattle.faults.specs.declared.fault.StoreFault.{StoreFault}
 use Rattle.paged.specs.Paged.{pairs_on}
 use Rattle.walk.specs.Checking.{Holding, found_on}
 use Rattle.store.specs.Formatting.{Fresh}
+use Rattle.store.specs.Model.{off}
 use Rattle.store.specs.declared.client.Answer.{Answer}
 use Rattle.store.specs.declared.client.Answer.TheVariants.{Number}
 use Rattle.store.specs.declared.client.Call.{Call}
 use Rattle.store.specs.declared.client.Call.TheVariants.{Open, Begin, Get, After, Abort, Commit, PowerReturn}
 use Rattle.recovery.specs.Record.{Record, fresh, recorded}
-use Rattle.recovery.specs.Premise.{Premise}
 
 -- what an opening found on the medium: commit c, with exactly these pairs, in rising order, in a tree whose leaves lie
 -- equally deep (as those of every PagedTree do) and which has at most seven levels
@@ -25,8 +25,8 @@ pub record Finds (n : Medium) (c : ℕ) (ps : List Pair) : Type 0 where
   pub rising : Rising ps
   pub low : held.meta.levels ≤ 7
 
--- An opening outside a transaction that met no refusal for want of power is accepted. It answers the number of the record,
--- or the next one, and that only if a commit was interrupted; and it finds the map that the record then has as committed.
+-- An opening is accepted. It answers the number of the record, or the next one, and that only if a commit was interrupted;
+-- and it finds the map that the record then has as committed.
 abbrev pub OpensWell : Record → Result Answer StoreFault → Medium → Type 0
 OpensWell k a n = (c : ℕ)
     × (a ≡ Ok (Number c))
@@ -37,9 +37,10 @@ abbrev pub Outside : Option (List Pair) → Type 0 → Type 0
 Outside None P = P
 Outside (Some w) P = Unit {0}
 
--- what is promised of a call that answered a, where k was the record before it, and n the medium after it
+-- What is promised of a call that answered a, where k was the record before it, and n the medium after it: an opening goes
+-- well, unless its device is off, and then it says so.
 abbrev pub Claim : Record → Call → Result Answer StoreFault → Medium → Type 0
-Claim k Open a n = Outside k.working (n.on ≡ true → OpensWell k a n)
+Claim k Open a n = Outside k.working ((n.on ≡ true → OpensWell k a n) × (n.on ≡ false → a ≡ Err off))
 Claim k Begin a n = Unit {0}
 Claim k (Get key) a n = Unit {0}
 Claim k (After key) a n = Unit {0}
@@ -52,14 +53,16 @@ pub record Segment : Type 0 where
   pub calls : History
   pub after : Medium
 
--- of each call in turn
-abbrev pub Claims : Record → List Call → List (Result Answer StoreFault) → List Segment → Type 0
-Claims k [] [] [] = Unit {0}
-Claims k [] [] (s ∷ ss) = ⊥
-Claims k [] (a ∷ bs) ss = ⊥
-Claims k (c ∷ cs) [] ss = ⊥
-Claims k (c ∷ cs) (a ∷ bs) [] = ⊥
-Claims k (c ∷ cs) (a ∷ bs) (s ∷ ss) = Claim k c a s.after × Claims (recorded k c a) cs bs ss
+-- Of each call in turn: where what is asked of the device's calls up to its end holds of them, it answered as promised.
+-- The calls h came before these, and k was the record then.
+abbrev pub Claims : (asked : History → Type 0) → (h : History) → Record → List Call → List (Result Answer StoreFault) → List Segment → Type 0
+Claims asked h k [] [] [] = Unit {0}
+Claims asked h k [] [] (s ∷ ss) = ⊥
+Claims asked h k [] (a ∷ bs) ss = ⊥
+Claims asked h k (c ∷ cs) [] ss = ⊥
+Claims asked h k (c ∷ cs) (a ∷ bs) [] = ⊥
+Claims asked h k (c ∷ cs) (a ∷ bs) (s ∷ ss) =
+    (asked (s.calls ++ h) → Claim k c a s.after) × Claims asked (s.calls ++ h) (recorded k c a) cs bs ss
 
 -- the segments one after another: they lead from m to n; and their calls, newest first
 abbrev pub Passes : Medium → List Segment → Medium → Type 0
@@ -71,9 +74,8 @@ calls_of [] = []
 calls_of (s ∷ ss) = calls_of ss ++ s.calls
 
 -- Whichever history led to the device, the calls that formatted it, and then those of each call of the script, lead on
--- from there. If no power return among these makes up a meta page, each answer is as promised.
-abbrev pub Keeps : (P : History → Type 0) → Medium → (Q : History → Type 0) → Medium → List Call → List (Result Answer StoreFault) → Type 0
-Keeps P m Q n script answers = (h : History) → P h
+-- from there; and each answer is as promised, if what is asked of the calls on the formatted device holds of those up to it.
+abbrev pub Keeps : (asked : Medium → History → Type 0) → (P : History → Type 0) → Medium → (Q : History → Type 0) → Medium → List Call → List (Result Answer StoreFault) → Type 0
+Keeps asked P m Q n script answers = (h : History) → P h
     → (t : History) × (m₀ : Medium) × (ss : List Segment)
-    × Q (calls_of ss ++ (t ++ h)) × Leads m t m₀ × Fresh m₀ × Passes m₀ ss n
-    × (Premise m₀ (calls_of ss) → Claims fresh script answers ss)
+    × Q (calls_of ss ++ (t ++ h)) × Leads m t m₀ × Fresh m₀ × Passes m₀ ss n × Claims (asked m₀) [] fresh script answers ss

@@ -2,7 +2,7 @@ ghost use Rattle.std.specs.Prelude.{◌≡◌};
 ghost use Rattle.recovery.specs.declared.fault.RunFault.TheVariants.{Format, Memory};
 
 use faults::StoreFault;
-use std::alloc::AllocError;
+use std::alloc::{AllocError, AllocFailed};
 
 // Why a run did not take place: its store could not be formatted, or memory is wanting.
 #[derive(Clone, Copy, PartialEq, Eq, Debug)]
@@ -23,6 +23,14 @@ impl From<AllocError> for RunFault {
     ghost from_gives = { λ f r. r ≡ Memory };
 
     fn from(_fault: AllocError) -> RunFault {
+        RunFault::Memory
+    }
+}
+
+impl<T: Drop> From<AllocFailed<T>> for RunFault {
+    ghost from_gives = { λ f r. r ≡ Memory };
+
+    fn from(_fault: AllocFailed<T>) -> RunFault {
         RunFault::Memory
     }
 }

@@ -1,0 +1,5 @@
+use Rattle.trials.proofs.Discharged.{discharged}
+use Rattle.trials.proofs.run_on_disk.Goals as goal
+
+pub returns : goal.returns
+returns g c = discharged c.args.disk c.args.script.now c.run.result c.run.ensures
