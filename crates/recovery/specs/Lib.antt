@@ -2,3 +2,4 @@ pub mod Record
 pub mod Premise
 pub mod Promise
 pub mod Runs
+pub mod Words
