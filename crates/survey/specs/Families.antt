@@ -1,5 +1,5 @@
 -- The pages of a tree by their parents.
-use Rattle.std.specs.Prelude.{◌≡◌, ℕ, ◌-◌, ◌<◌, Bool, true, false, cond, ◌&&◌, List, ◌≡◌, Some, None, Ok, Err, Option, Result, nat_le, slice_index_or, ◌==◌}
+use Rattle.std.specs.Prelude.{◌≡◌, ℕ, ◌-◌, ◌<◌, Bool, true, false, cond, ◌&&◌, List, Some, None, Ok, Err, Option, Result, nat_le, slice_index_or, ◌==◌}
 use Rattle.device.specs.declared.fault.DeviceFault.{DeviceFault}
 use Rattle.device.specs.declared.fault.DeviceFault.TheVariants.{Off}
 use Rattle.page.specs.Kinds.{branch_rules}
