@@ -1,16 +1,14 @@
 -- A tree that was recovered, and then the parents of its pages.
-use Rattle.std.proofs.Common.{◌≡◌, ℕ, Bool, true, false, cond, List, Ok, Err, Result, sym, refl, ap, ◌∙◌, subst, arith}
+use Rattle.std.proofs.Common.{◌≡◌, ℕ, Bool, true, false, cond, List, Ok, Err, Result, refl, subst, arith}
 use Rattle.device.specs.Medium.{Medium}
 use Rattle.device.specs.History.{History}
 use Rattle.device.specs.Looking.{Looks}
 use Rattle.device.specs.declared.fault.DeviceFault.{DeviceFault}
-use Rattle.device.specs.declared.fault.DeviceFault.TheVariants.{Off}
 use Rattle.device.proofs.Looking.{looks_more, reads_keep, same_pages}
-use Rattle.page.specs.declared.fault.PageFault.TheVariants.{Device}
 use Rattle.faults.specs.Faults.{from_device}
 use Rattle.faults.specs.declared.fault.StoreFault.{StoreFault}
-use Rattle.faults.specs.declared.fault.StoreFault.TheVariants.{Page, PageCount}
-use Rattle.walk.specs.Checking.{fits_pages, powered, found_on, held_by, newest_in, Recovers}
+use Rattle.faults.specs.declared.fault.StoreFault.TheVariants.{PageCount}
+use Rattle.walk.specs.Checking.{fits_pages, powered, held_by, newest_in, Recovers}
 use Rattle.walk.specs.declared.inspection.Recovered.{Recovered}
 use Rattle.survey.specs.Families.{ParentsAre, TellsParents, FindsTree}
 use Rattle.survey.specs.declared.parents.Parents.{Parents}

@@ -4,3 +4,4 @@ pub mod Looks
 pub mod Adopting
 pub mod Naming
 pub mod Finding
+pub mod InTrees

@@ -1,5 +1,5 @@
 -- What the readings of a page say of its content.
-use Rattle.std.proofs.Common.{◌≡◌, ℕ, false, List, length, Some, None, sym, refl, ap, ◌∙◌}
+use Rattle.std.proofs.Common.{◌≡◌, ℕ, false, List, length, Some, None, refl, ap, ◌∙◌}
 use Rattle.tree.specs.Trees.{branch_cost}
 use Rattle.page.specs.Kinds.{Rules, leaf_rules, branch_rules}
 use Rattle.page.specs.Reading.{first_fault, sound}
@@ -7,7 +7,7 @@ use Rattle.page.specs.Views.{branch_in}
 use Rattle.page.specs.declared.fault.Cause.{Cause}
 use Rattle.page.proofs.Sounds.{sound_none}
 use Rattle.meta.specs.Test.{read_meta}
-use Rattle.survey.specs.Contents.{node_in, or_node, content_of, branch_fill}
+use Rattle.survey.specs.Contents.{content_of, branch_fill}
 use Rattle.survey.specs.declared.contents.Content.TheVariants.{Branch, Unused}
 use Rattle.survey.specs.declared.contents.Fill.{Fill}
 

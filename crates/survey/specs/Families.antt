@@ -1,5 +1,5 @@
 -- The pages of a tree by their parents.
-use Rattle.std.specs.Prelude.{◌≡◌, ℕ, ◌-◌, ◌<◌, ◌≤◌, Bool, true, false, cond, ◌&&◌, List, ◌≡◌, Some, None, Ok, Err, Option, Result, nat_le, slice_index_or, ◌==◌}
+use Rattle.std.specs.Prelude.{◌≡◌, ℕ, ◌-◌, ◌<◌, Bool, true, false, cond, ◌&&◌, List, Some, None, Ok, Err, Option, Result, nat_le, slice_index_or, ◌==◌}
 use Rattle.device.specs.declared.fault.DeviceFault.{DeviceFault}
 use Rattle.device.specs.declared.fault.DeviceFault.TheVariants.{Off}
 use Rattle.page.specs.Kinds.{branch_rules}
@@ -10,7 +10,7 @@ use Rattle.faults.specs.declared.fault.StoreFault.{StoreFault}
 use Rattle.paged.specs.Paged.{PagedTree, children, pages_of}
 use Rattle.paged.specs.Walk.{elem}
 use Rattle.walk.specs.Marking.{MarksAre}
-use Rattle.walk.specs.Checking.{Holding, newest_in, held_by, found_on}
+use Rattle.walk.specs.Checking.{newest_in, found_on}
 use Rattle.survey.specs.declared.parents.Parents.{Parents}
 use Rattle.survey.specs.declared.family.Place.{Place}
 use Rattle.survey.specs.declared.family.Place.TheVariants.{Root, ChildOf, NoTree}

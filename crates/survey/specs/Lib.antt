@@ -3,3 +3,4 @@ pub mod Verdicts
 pub mod Families
 pub mod Rows
 pub mod Lines
+pub mod Laws

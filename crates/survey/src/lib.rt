@@ -3,6 +3,7 @@
 
 mod contents;
 mod family;
+pub mod laws;
 mod parents;
 mod row;
 mod verdict;

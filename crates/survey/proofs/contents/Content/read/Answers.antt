@@ -1,4 +1,4 @@
-use Rattle.std.proofs.Common.{sym, ◌∙◌, rules}
+use Rattle.std.proofs.Common.{sym}
 use Rattle.survey.proofs.Readings.{is_branch, is_unused}
 use Rattle.survey.proofs.contents.Content.read.Goals as goal
 

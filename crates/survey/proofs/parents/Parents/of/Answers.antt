@@ -1,6 +1,5 @@
-use Rattle.std.proofs.Common.{sym, ◌∙◌, subst, arith, rules}
-use Rattle.survey.proofs.Looks.{looks_as}
-use Rattle.survey.proofs.Naming.{up_none, go_past, go_other, go_branch, go_off, ends_told, off_told}
+use Rattle.std.proofs.Common.{sym, ◌∙◌, arith}
+use Rattle.survey.proofs.Naming.{up_none, go_past, go_other, go_branch, ends_told, off_told}
 use Rattle.survey.proofs.parents.Parents.of.Goals as goal
 use Rattle.survey.proofs.parents.Parents.of.Goals.{in-Ok, in-Err-Damaged}
 
