@@ -2,7 +2,7 @@ ghost use Rattle.std.specs.Prelude.{◌≡◌};
 ghost use Rattle.recovery.specs.declared.fault.RunFault.TheVariants.{Format, Memory};
 
 use faults::StoreFault;
-use std::alloc::{AllocError, AllocFailed};
+use std::alloc::AllocFailed;
 
 // Why a run did not take place: its store could not be formatted, or memory is wanting.
 #[derive(Clone, Copy, PartialEq, Eq, Debug)]
@@ -16,14 +16,6 @@ impl From<StoreFault> for RunFault {
 
     fn from(fault: StoreFault) -> RunFault {
         RunFault::Format(fault)
-    }
-}
-
-impl From<AllocError> for RunFault {
-    ghost from_gives = { λ f r. r ≡ Memory };
-
-    fn from(_fault: AllocError) -> RunFault {
-        RunFault::Memory
     }
 }
 
