@@ -1,11 +1,12 @@
 -- A run, call after call.
 use Rattle.std.proofs.Common.{◌≡◌, Bool, true, false, cond, List, [], ◌∷◌, ◌++◌, Ok, Err, Result, sym, refl, ap, ◌∙◌, subst, append_assoc, append-nil}
+use Rattle.std.specs.List.{AllByRecursion}
 use Rattle.device.specs.Medium.{Medium}
 use Rattle.device.specs.History.{History, Leads}
 use Rattle.device.specs.declared.Reader.{Ghosts}
 use Rattle.faults.specs.declared.fault.StoreFault.{StoreFault}
 use Rattle.faults.specs.declared.fault.StoreFault.TheVariants.{PageCount}
-use Rattle.store.specs.Acting.{Acts}
+use Rattle.store.specs.Acting.{IsAllowed, Acts}
 use Rattle.store.specs.Client.{Does}
 use Rattle.store.specs.Formatting.{Fresh, FormatsTo}
 use Rattle.store.specs.Model.{Model, shut, idle, active, off, formats}
@@ -37,9 +38,9 @@ calls_more : (ss : List Segment) (s : Segment) → calls_of (ss ++ s ∷ []) ≡
 calls_more [] s = sym (append-nil s.calls)
 calls_more (r ∷ ss) s = ap (λ t. t ++ r.calls) (calls_more ss s) ∙ append_assoc s.calls (calls_of ss) r.calls
 
-passes_more : (m : Medium) (ss : List Segment) (n : Medium) (s : Segment) → Passes m ss n → Leads n s.calls s.after → Passes m (ss ++ s ∷ []) s.after
-passes_more m [] n s p l = (subst (λ v. Leads v s.calls s.after) p l, refl)
-passes_more m (r ∷ ss) n s p l = (p.0, passes_more r.after ss n s p.1 l)
+passes_more : (m : Medium) (ss : List Segment) (n : Medium) (s : Segment) → Passes m ss n → Leads n s.calls s.after → AllByRecursion IsAllowed s.calls → Passes m (ss ++ s ∷ []) s.after
+passes_more m [] n s p l w = (subst (λ v. Leads v s.calls s.after) p l, w, refl)
+passes_more m (r ∷ ss) n s p l w = (p.0, p.1, passes_more r.after ss n s p.2 l w)
 
 -- The record is k after these calls, with their answers: whatever is claimed of further calls from there on is claimed of
 -- all of them.
@@ -57,7 +58,7 @@ claims_as asked h k cs cs' bs bs' ss ss' e f g c =
 pub record Going (P : History → Type 0) (m : Medium) (Q : History → Type 0) (z : Snapshot) (cs : List Call) (bs : List (Result Answer StoreFault)) : Type 0 where
   pub runs : (h : History) → P h
       → (t : History) × (m₀ : Medium) × (ss : List Segment) × (k : Record)
-      × Q (calls_of ss ++ (t ++ h)) × Leads m t m₀ × Fresh m₀ × Passes m₀ ss z.medium × Reaches m₀ cs bs ss k
+      × Q (calls_of ss ++ (t ++ h)) × Leads m t m₀ × AllByRecursion IsAllowed t × Fresh m₀ × Passes m₀ ss z.medium × Reaches m₀ cs bs ss k
       × (Premise m₀ (calls_of ss) → Tracks m₀ (calls_of ss) k z)
 
 -- a format leaves the store shut
@@ -86,7 +87,7 @@ module _ {D : Type 0} (r : Ghosts D) (d : D) (s z : Store D) (same : s.device �
     runs = λ h p.
         let b = w.follows h p in
         let o = b.4.1 sound in
-        (b.0, r.medium z.device, [], fresh, b.1, b.2, b.4.0, refl, (λ ds es ts c. c), (λ _. starts (snapshot r z) b.4.0 o.sound (o.becomes ∙ formats_shut _ _ _ o.answers)));
+        (b.0, r.medium z.device, [], fresh, b.1, b.2, b.3, b.4.0, refl, (λ ds es ts c. c), (λ _. starts (snapshot r z) b.4.0 o.sound (o.becomes ∙ formats_shut _ _ _ o.answers)));
   })
 
   pub format_fails : (f : StoreFault) → StoreActs r s z (λ s z t. FormatsTo s z (Err f)) → Fails (r.past d) (r.medium d) (Format f)
@@ -109,7 +110,7 @@ module _ {P : History → Type 0} {m : Medium} {Q : History → Type 0} {R : His
         let u = y.0 in
         let r : Segment = segment u z.medium in
         let e : calls_of (ss ++ r ∷ []) ≡ u ++ calls_of ss = calls_more ss r in
-        let goes = λ (q : Premise m₀ (u ++ calls_of ss)). each_goes c s z a u y.2 y.4 m₀ (calls_of ss) k q (g.9 (premise_before m₀ u (calls_of ss) q)) in (
+        let goes = λ (q : Premise m₀ (u ++ calls_of ss)). each_goes c s z a u y.2 y.4 m₀ (calls_of ss) k q (g.10 (premise_before m₀ u (calls_of ss) q)) in (
           t,
           m₀,
           ss ++ r ∷ [],
@@ -117,10 +118,11 @@ module _ {P : History → Type 0} {m : Medium} {Q : History → Type 0} {R : His
           subst R (ap (λ v. v ++ (t ++ h)) (sym e)) (subst R (sym (append_assoc u (calls_of ss) (t ++ h))) y.1),
           g.5,
           g.6,
-          passes_more m₀ ss s.medium r g.7 y.2,
+          g.7,
+          passes_more m₀ ss s.medium r g.8 y.2 y.3,
           λ ds es ts q.
               claims_as (Premise m₀) [] fresh _ _ _ _ _ _ (sym (append_assoc cs (c ∷ []) ds)) (sym (append_assoc bs (a ∷ []) es)) (sym (append_assoc ss (r ∷ []) ts))
-              (g.8 (c ∷ ds) (a ∷ es) (r ∷ ts) ((λ v. (goes v).1), subst (λ v. Claims (Premise m₀) v (recorded k c a) ds es ts) e q)),
+              (g.9 (c ∷ ds) (a ∷ es) (r ∷ ts) ((λ v. (goes v).1), subst (λ v. Claims (Premise m₀) v (recorded k c a) ds es ts) e q)),
           λ q. subst (λ v. Tracks m₀ v (recorded k c a) z) (sym e) (goes (subst (Premise m₀) e q)).0,
         );
   }
@@ -128,4 +130,4 @@ module _ {P : History → Type 0} {m : Medium} {Q : History → Type 0} {R : His
 pub going_all : {P : History → Type 0} {m : Medium} {Q : History → Type 0} (z : Snapshot) (cs : List Call) (bs : List (Result Answer StoreFault)) → Going P m Q z cs bs → Keeps Premise P m Q z.medium cs bs
 going_all z cs bs w = λ h p.
     let g = w.runs h p in
-    (g.0, g.1, g.2, g.4, g.5, g.6, g.7, claims_as (Premise g.1) [] fresh _ _ _ _ _ _ (append-nil cs) (append-nil bs) (append-nil g.2) (g.8 [] [] [] tt))
+    (g.0, g.1, g.2, g.4, g.5, g.6, g.7, g.8, claims_as (Premise g.1) [] fresh _ _ _ _ _ _ (append-nil cs) (append-nil bs) (append-nil g.2) (g.9 [] [] [] tt))

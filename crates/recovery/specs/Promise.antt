@@ -1,5 +1,6 @@
 -- The promise on power loss, over whole runs of calls.
 use Rattle.std.specs.Prelude.{◌≡◌, ℕ, ◌+◌, ◌-◌, ◌≤◌, true, false, ◌⊎◌, List, [], ◌∷◌, ◌++◌, is_some, Some, None, Ok, Err, Option, Result}
+use Rattle.std.specs.List.{AllByRecursion}
 use Rattle.device.specs.Medium.{Medium}
 use Rattle.device.specs.History.{History, Leads}
 use Rattle.cuts.specs.Nodes.{Pair}
@@ -7,6 +8,7 @@ use Rattle.tree.specs.Maps.{Rising}
 use Rattle.faults.specs.declared.fault.StoreFault.{StoreFault}
 use Rattle.paged.specs.Paged.{pairs_on}
 use Rattle.walk.specs.Checking.{Holding, found_on}
+use Rattle.store.specs.Acting.{IsAllowed}
 use Rattle.store.specs.Formatting.{Fresh}
 use Rattle.store.specs.Model.{off}
 use Rattle.store.specs.declared.client.Answer.{Answer}
@@ -64,10 +66,11 @@ Claims asked h k (c ∷ cs) (a ∷ bs) [] = ⊥
 Claims asked h k (c ∷ cs) (a ∷ bs) (s ∷ ss) =
     (asked (s.calls ++ h) → Claim k c a s.after) × Claims asked (s.calls ++ h) (recorded k c a) cs bs ss
 
--- the segments one after another: they lead from m to n; and their calls, newest first
+-- the segments one after another: they lead from m to n, by calls as the rules of a device allow them; and their calls,
+-- newest first
 abbrev pub Passes : Medium → List Segment → Medium → Type 0
 Passes m [] n = n ≡ m
-Passes m (s ∷ ss) n = Leads m s.calls s.after × Passes s.after ss n
+Passes m (s ∷ ss) n = Leads m s.calls s.after × AllByRecursion IsAllowed s.calls × Passes s.after ss n
 
 abbrev pub calls_of : List Segment → History
 calls_of [] = []
@@ -78,4 +81,4 @@ calls_of (s ∷ ss) = calls_of ss ++ s.calls
 abbrev pub Keeps : (asked : Medium → History → Type 0) → (P : History → Type 0) → Medium → (Q : History → Type 0) → Medium → List Call → List (Result Answer StoreFault) → Type 0
 Keeps asked P m Q n script answers = (h : History) → P h
     → (t : History) × (m₀ : Medium) × (ss : List Segment)
-    × Q (calls_of ss ++ (t ++ h)) × Leads m t m₀ × Fresh m₀ × Passes m₀ ss n × Claims (asked m₀) [] fresh script answers ss
+    × Q (calls_of ss ++ (t ++ h)) × Leads m t m₀ × AllByRecursion IsAllowed t × Fresh m₀ × Passes m₀ ss n × Claims (asked m₀) [] fresh script answers ss

@@ -3,7 +3,7 @@ ghost use Rattle.recovery.specs.declared.fault.RunFault.TheVariants.{Format, Mem
 ghost use Rattle.recovery.specs.Words.{run_words};
 
 use faults::StoreFault;
-use std::alloc::{AllocError, AllocFailed};
+use std::alloc::AllocFailed;
 use std::error::Error;
 use std::fmt;
 
@@ -19,14 +19,6 @@ impl From<StoreFault> for RunFault {
 
     fn from(fault: StoreFault) -> RunFault {
         RunFault::Format(fault)
-    }
-}
-
-impl From<AllocError> for RunFault {
-    ghost from_gives = { λ f r. r ≡ Memory };
-
-    fn from(_fault: AllocError) -> RunFault {
-        RunFault::Memory
     }
 }
 

@@ -63,7 +63,7 @@ faithful_premise m m₀ t (s ∷ u) l d f = (faithful_premise m m₀ t u l d f.0
 
 passes_lead : (m : Medium) (ss : List Segment) (n : Medium) → Passes m ss n → Leads m (calls_of ss) n
 passes_lead m [] n p = p
-passes_lead m (s ∷ ss) n p = leads_more m s.after n s.calls (calls_of ss) p.0 (passes_lead s.after ss n p.1)
+passes_lead m (s ∷ ss) n p = leads_more m s.after n s.calls (calls_of ss) p.0 (passes_lead s.after ss n p.2)
 
 -- of either kind of disk, from one that is durable on
 met : (at_once : Bool) (durable : ℕ → List ℕ) (m m₀ n : Medium) (t : History) (ss : List Segment) → Durable m → Leads m t m₀ → Durable m₀ → Passes m₀ ss n
@@ -79,8 +79,8 @@ module _ {S : Type 0} {g : Ghosts S} (d : Disk S g) where
       let k = w h p in
       let base = q.0 in
       let all : Premise k.1 (calls_of k.2) =
-      met g.at_once (λ p. (page_at (pages_of e) p).durable) base k.1 (disk_medium e) (k.0 ++ h) k.2 q.1 (leads_more base (disk_medium d) k.1 h k.0 q.2 k.4) k.5.durable k.6 k.3 in
-      (k.0, k.1, k.2, k.3, k.4, k.5, k.6, claims_met (Premise k.1) k.1 (premise_before k.1) [] _ cs bs k.2 (subst (Premise k.1) (sym (append-nil (calls_of k.2))) all) k.7)
+      met g.at_once (λ p. (page_at (pages_of e) p).durable) base k.1 (disk_medium e) (k.0 ++ h) k.2 q.1 (leads_more base (disk_medium d) k.1 h k.0 q.2 k.4) k.6.durable k.7 k.3 in
+      (k.0, k.1, k.2, k.3, k.4, k.5, k.6, k.7, claims_met (Premise k.1) k.1 (premise_before k.1) [] _ cs bs k.2 (subst (Premise k.1) (sym (append-nil (calls_of k.2))) all) k.8)
 
   fails : (f : RunFault) → Fails (disk_past d) (disk_medium d) f → Fails (FromDurable (disk_past d) (disk_medium d)) (disk_medium d) f
   fails (Format f) w = λ h p. w h p.0
