@@ -47,9 +47,9 @@ fn a_tree_has_other_levels(rt: HostRuntime) -> Result<(), Fail> {
     Ok(())
 }
 
-// In turn: a byte that should be zero, the number of cells, where the lowest begins, and a byte that should be zero; of a
-// leaf the child that only a branch has; the first cell's place, and a byte between places and cells. In a leaf the first
-// cell, from 396 on, has the lengths of its key and of its value; in a branch, from 442 on, its separator's and a zero.
+// In turn: a byte that should be zero, the number of cells, where the lowest begins, and a byte that should be zero; of
+// a leaf the child that only a branch has; the first cell's place, and a byte between places and cells. The first cell
+// of a leaf, from 396 on, has the lengths of key and value; that of a branch, from 442 on, its separator's and a zero.
 #[test]
 fn a_layout_is_wrong(rt: HostRuntime) -> Result<(), Fail> {
     let of_leaf = [1, 2, 4, 6, 8, 16, 22, 396, 397];

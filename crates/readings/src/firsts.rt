@@ -4,8 +4,8 @@ use crate::makers::{branch, key, leaf};
 use page::{BranchPage, Cause};
 use std::test::Fail;
 
-// Page 14 gets one fault more each time, and the new one is named: it is underfull, and its key is below "g"; its keys do
-// not rise; a byte should be zero; the kind is none; the checksum is wrong.
+// Page 14 gets one fault more each time, and the new one is named: it is underfull, and its key is below "g"; its keys
+// do not rise; a byte should be zero; the kind is none; the checksum is wrong.
 #[test]
 fn the_first_cause_in_a_leaf_is_named(rt: HostRuntime) -> Result<(), Fail> {
     let mut card = two_levels(rt.alloc())?;

@@ -1,5 +1,5 @@
-// Pages with keys and separators of 64 bytes, each of which a letter stands for: they differ in their last byte, and are
-// in the order of the letters.
+// Pages with keys and separators of 64 bytes, each of which a letter stands for: they differ in their last byte, and
+// are in the order of the letters.
 use page::{BranchPage, Grown, LeafPage};
 use std::test::Fail;
 

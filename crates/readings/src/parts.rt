@@ -68,8 +68,8 @@ fn a_buffer_of_another_kind_is_refused(rt: HostRuntime) -> Result<(), Fail> {
     Ok(())
 }
 
-// A byte that should be zero, the length of the first key and of its value, and a second key that is below the first: all
-// pairs are refused.
+// A byte that should be zero, the length of the first key and of its value, and a second key that is below the first:
+// all pairs are refused.
 #[test]
 fn a_leaf_that_is_none_is_refused(rt: HostRuntime) -> Result<(), Fail> {
     for (at, byte) in [(1, 1), (503, 4), (504, 5), (494, b'a')] {

@@ -1,4 +1,4 @@
-// Cards whose walk does not begin, or breaks off: too small or too large, without a commit, or off. And how much is read.
+// Cards whose walk does not begin, or breaks off: of a wrong size, without a commit, or off. And how much is read.
 use crate::cards::{Card, damaged, empty, sound, three_levels, two_levels};
 use device::DeviceFault;
 use faults::StoreFault;
