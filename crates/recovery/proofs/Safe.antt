@@ -99,7 +99,6 @@ pub record Safe (base : Medium) (h : History) (k : Record) (x : Meta) (m : Mediu
   pub now : Mild k x m (m.bytes (other x))
   pub was : Mild k x m (last_durable base h (other x))
   pub wrote : m.volatile (other x) ≡ true → Mild k x m (last_written base h (other x))
-  pub calm : k.in_doubt ≡ None → m.volatile (other x) ≡ false
 
 -- from medium to medium
 pub mild_holds : (k : Record) (x : Meta) (m n : Medium) (b : List ℕ) → Holds m n → Mild k x m b → Mild k x n b
@@ -139,7 +138,6 @@ quiet_safe base h k x m n e keeps same s =
       now = now;
       was = mild_cond k x n (n.volatile (other x)) _ _ (mild_holds k x m n _ hold s.was) now;
       wrote = λ v. mild_as k x n _ _ (same (last_written base h (other x))) (mild_holds k x m n _ hold (s.wrote (volatile_back m n (other x) (keeps.stays_durable (other x)) v)));
-      calm = λ z. keeps.stays_durable (other x) (s.calm z);
     }
 
 -- a power return
@@ -159,7 +157,6 @@ return_safe base h k x m n r honest s =
       now = now;
       was = mild_cond k x n (n.volatile (other x)) _ _ (mild_holds k x m n _ hold s.was) now;
       wrote = λ v. absurd (both_ways (n.volatile (other x)) (r.durable (other x)) v);
-      calm = λ z. r.durable (other x);
     }
   where
     shown : (v : Bool) → m.volatile (other x) ≡ v → Mild k x n (n.bytes (other x))
@@ -182,7 +179,6 @@ doubting base h k k' x m d none n c i s = record {
   now = older _ s.now;
   was = older _ s.was;
   wrote = λ v. older _ (s.wrote v);
-  calm = λ z. let q = none in cc;
 }
   where
     older : (b : List ℕ) → Mild k x m b → Mild k' x m b
@@ -208,7 +204,6 @@ write_safe base h k x w m n r d keeps put next whole pairs doubt s =
       now = now;
       was = mild_cond k x n (n.volatile (other x)) _ _ (mild_holds k x m n _ hold s.was) now;
       wrote = λ _. mild_as k x n _ _ (rw (eq-eqb (other x) (other x) refl)) mild;
-      calm = λ z. let q = doubt in cc;
     }
   where
     itself : Mild k x n (meta_page w)

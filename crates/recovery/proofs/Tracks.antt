@@ -50,7 +50,6 @@ alike_safe base h k k' x m a s = record {
   now = mild _ s.now;
   was = mild _ s.was;
   wrote = λ v. mild _ (s.wrote v);
-  calm = λ e. s.calm (sym a.in_doubt ∙ e);
 }
   where
     mild : (b : List ℕ) → Mild k x m b → Mild k' x m b
@@ -79,7 +78,6 @@ settled_safe base h k x m room whole number map page firm durable leads now = re
   now = now;
   was = subst (Mild k x m) (sym (last_is base h m (other x) leads durable)) now;
   wrote = λ v. absurd (both_ways (m.volatile (other x)) durable v);
-  calm = λ _. durable;
 }
 
 -- calls that read or sync

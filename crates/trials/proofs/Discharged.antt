@@ -1,12 +1,12 @@
 -- What a run asks of the power returns holds on a simulated disk.
-use Rattle.std.proofs.Common.{◌≡◌, ℕ, Bool, true, false, cond, List, [], ◌∷◌, ◌++◌, Result, sym, ap, ◌∙◌, subst, inl, append_assoc, append-nil, Ok, Err}
+use Rattle.std.proofs.Common.{◌≡◌, ℕ, Bool, true, false, cond, List, [], ◌∷◌, ◌++◌, Result, sym, ap, ◌∙◌, subst, inl, append_assoc, append-nil, Ok, Err, zero, suc, replicate, refl}
 use Rattle.std.proofs.lemmas.Bool.{both_ways}
 use Rattle.device.specs.Medium.{Medium, Durable}
 use Rattle.device.specs.History.{Event, did_read, did_write, did_sync, power_returned, History, Leads, last_durable}
 use Rattle.device.proofs.Looking.{leads_more}
 use Rattle.disks.specs.Accounts.{ShowsDurable, Faithful, NeverVolatile, Accounts}
 use Rattle.disks.specs.Disks.{pages_of, disk_medium, disk_past}
-use Rattle.disks.specs.Kept.{page_at}
+use Rattle.disks.specs.Kept.{blank, page_at}
 use Rattle.disks.specs.declared.disk.Disk.{Disk}
 use Rattle.disks.specs.declared.stored.Stored.{Ghosts}
 use Rattle.faults.specs.declared.fault.StoreFault.{StoreFault}
@@ -90,3 +90,9 @@ module _ {S : Type 0} {g : Ghosts S} (d : Disk S g) where
       → RunsTo disk_past disk_medium Anything (FromDurable (disk_past d) (disk_medium d)) d cs r
   discharged cs (Ok o) w = kept o.store.device cs o.answers.items w
   discharged cs (Err f) w = fails f w
+
+-- a blank page is durable
+pub blank_durable : (n p : ℕ) → (page_at (replicate n blank) p).volatile ≡ false
+blank_durable zero p = refl
+blank_durable (suc n) zero = refl
+blank_durable (suc n) (suc p) = blank_durable n p

@@ -3,7 +3,7 @@
 
 ghost use Rattle.disks.specs.Disks.{disk_medium, disk_past};
 ghost use Rattle.recovery.specs.Runs.{RunsTo};
-ghost use Rattle.trials.specs.Trials.{Anything, FromDurable};
+ghost use Rattle.trials.specs.Trials.{Anything, FromDurable, BlankDisksAreDurable};
 
 use disks::{Disk, Stored};
 use recovery::{Outcome, RunFault, run};
@@ -20,6 +20,12 @@ pub fn run_on_disk<S: Stored>(
 {
     run(heap, disk, script)
 }
+
+// What `run_on_disk` promises holds over a new disk, to which no call has led. This function does nothing: it carries the law in
+// its contract.
+pub fn blank_disks_are_durable<S: Stored>()
+    ensures { BlankDisksAreDurable S.Stored }
+{}
 
 #[cfg(test)]
 mod tests {
