@@ -1,4 +1,4 @@
-// What a fitter is told of a card: whether it is sound, and what each of its pages is.
+// What is told of a card: whether it is sound, and what each of its pages is.
 #![tactic(auto)]
 
 mod contents;
