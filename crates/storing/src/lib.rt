@@ -1,0 +1,13 @@
+// Tests of the store: what each call refuses, and which commit is found when power failed on a call.
+#![tactic(auto)]
+
+#[cfg(test)]
+mod cuts;
+#[cfg(test)]
+mod keys;
+#[cfg(test)]
+mod numbers;
+#[cfg(test)]
+mod sizes;
+#[cfg(test)]
+mod states;
