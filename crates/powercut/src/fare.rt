@@ -43,8 +43,8 @@ fn header_page() -> Page {
     page
 }
 
-// The text of the record, a piece for each data page. (By `as`, since the length of an array can't be converted.)
-const TEXTS: [&str; DATA_PAGES as usize] = [
+// The text of the record, a piece for each data page.
+const TEXTS: [&str; 3] = [
     "trip 1207, 2026-11-16, 08:12 to 08:40, 11.3 km",
     "base 4.00, distance 13.20, waiting 1.20",
     "fare 18.40, paid in cash",

@@ -1,5 +1,5 @@
 -- A run, call after call.
-use Rattle.std.proofs.Common.{◌≡◌, Bool, true, false, cond, List, [], ◌∷◌, ◌++◌, Ok, Err, Result, sym, refl, ap, ◌∙◌, subst, append_assoc, append-nil}
+use Rattle.std.proofs.Common.{◌≡◌, ℕ, Bool, true, false, cond, List, [], ◌∷◌, ◌++◌, Ok, Err, Result, sym, refl, ap, ◌∙◌, subst, append_assoc, append-nil}
 use Rattle.std.specs.List.{AllByRecursion}
 use Rattle.device.specs.Medium.{Medium}
 use Rattle.device.specs.History.{History, Leads}
@@ -14,7 +14,8 @@ use Rattle.store.specs.Snapshots.{Snapshot, snapshot, IsSound, StoreActs}
 use Rattle.store.specs.Versions.{Sound, model_of}
 use Rattle.store.specs.declared.client.Answer.{Answer}
 use Rattle.store.specs.declared.client.Call.{Call}
-use Rattle.store.specs.declared.state.State.TheVariants.{Shut}
+use Rattle.store.specs.declared.state.State.{State}
+use Rattle.store.specs.declared.state.State.TheVariants.{Shut, Idle, InTransaction}
 use Rattle.store.specs.declared.store.Store.{Store}
 use Rattle.walk.specs.Checking.{fits_pages}
 use Rattle.recovery.specs.Premise.{Premise}
@@ -31,16 +32,23 @@ premise_before base [] h p = p
 premise_before base (s ∷ t) h p = premise_before base t h p.0
 
 -- one segment more
-abbrev segment : History → Medium → Segment
-segment t n = record { calls = t; after = n }
+abbrev segment : History → Snapshot → Segment
+segment t z = record { calls = t; after = z }
 
 calls_more : (ss : List Segment) (s : Segment) → calls_of (ss ++ s ∷ []) ≡ s.calls ++ calls_of ss
 calls_more [] s = sym (append-nil s.calls)
 calls_more (r ∷ ss) s = ap (λ t. t ++ r.calls) (calls_more ss s) ∙ append_assoc s.calls (calls_of ss) r.calls
 
-passes_more : (m : Medium) (ss : List Segment) (n : Medium) (s : Segment) → Passes m ss n → Leads n s.calls s.after → AllByRecursion IsAllowed s.calls → Passes m (ss ++ s ∷ []) s.after
-passes_more m [] n s p l w = (subst (λ v. Leads v s.calls s.after) p l, w, refl)
-passes_more m (r ∷ ss) n s p l w = (p.0, p.1, passes_more r.after ss n s p.2 l w)
+passes_more : (s₀ : Snapshot) (cs : List Call) (bs : List (Result Answer StoreFault)) (ss : List Segment) (s : Snapshot) (c : Call) (a : Result Answer StoreFault) (r : Segment)
+    → Passes s₀ cs bs ss s → Does c s r.after a r.calls → Leads s.medium r.calls r.after.medium → AllByRecursion IsAllowed r.calls
+    → Passes s₀ (cs ++ c ∷ []) (bs ++ a ∷ []) (ss ++ r ∷ []) r.after
+passes_more s₀ [] [] [] s c a r p d l w =
+    (subst (λ (v : Snapshot). Does c v r.after a r.calls) p d, subst (λ (v : Snapshot). Leads v.medium r.calls r.after.medium) p l, w, refl)
+passes_more s₀ [] [] (g ∷ gs) s c a r p d l w = absurd p
+passes_more s₀ [] (b ∷ bs) ss s c a r p d l w = absurd p
+passes_more s₀ (e ∷ cs) [] ss s c a r p d l w = absurd p
+passes_more s₀ (e ∷ cs) (b ∷ bs) [] s c a r p d l w = absurd p
+passes_more s₀ (e ∷ cs) (b ∷ bs) (g ∷ gs) s c a r p d l w = (p.0, p.1, p.2, passes_more g.after cs bs gs s c a r p.3 d l w)
 
 -- The record is k after these calls, with their answers: whatever is claimed of further calls from there on is claimed of
 -- all of them.
@@ -57,9 +65,15 @@ claims_as asked h k cs cs' bs bs' ss ss' e f g c =
 -- the store z, whose device has the histories Q, after these calls from the medium m on, where P were its histories
 pub record Going (P : History → Type 0) (m : Medium) (Q : History → Type 0) (z : Snapshot) (cs : List Call) (bs : List (Result Answer StoreFault)) : Type 0 where
   pub runs : (h : History) → P h
-      → (t : History) × (m₀ : Medium) × (ss : List Segment) × (k : Record)
-      × Q (calls_of ss ++ (t ++ h)) × Leads m t m₀ × AllByRecursion IsAllowed t × Fresh m₀ × Passes m₀ ss z.medium × Reaches m₀ cs bs ss k
-      × (Premise m₀ (calls_of ss) → Tracks m₀ (calls_of ss) k z)
+      → (t : History) × (s₀ : Snapshot) × (ss : List Segment) × (k : Record)
+      × Q (calls_of ss ++ (t ++ h)) × Leads m t s₀.medium × AllByRecursion IsAllowed t × Fresh s₀.medium × (s₀.state ≡ Shut) × Passes s₀ cs bs ss z
+      × Reaches s₀.medium cs bs ss k × (Premise s₀.medium (calls_of ss) → Tracks s₀.medium (calls_of ss) k z)
+
+-- a store whose model is shut is shut
+shut_state : (f : ℕ → List ℕ) (s : State) → model_of f s ≡ shut → s ≡ Shut
+shut_state f Shut e = refl
+shut_state f (Idle x) e = cc
+shut_state f (InTransaction x) e = cc
 
 -- a format leaves the store shut
 formats_shut : (on fits : Bool) (s : Model) → Ok tt ≡ (formats on fits s).answer → (formats on fits s).model ≡ shut
@@ -87,7 +101,8 @@ module _ {D : Type 0} (r : Ghosts D) (d : D) (s z : Store D) (same : s.device �
     runs = λ h p.
         let b = w.follows h p in
         let o = b.4.1 sound in
-        (b.0, r.medium z.device, [], fresh, b.1, b.2, b.3, b.4.0, refl, (λ ds es ts c. c), (λ _. starts (snapshot r z) b.4.0 o.sound (o.becomes ∙ formats_shut _ _ _ o.answers)));
+        let closed_now = o.becomes ∙ formats_shut _ _ _ o.answers in
+        (b.0, snapshot r z, [], fresh, b.1, b.2, b.3, b.4.0, shut_state _ _ closed_now, refl, (λ ds es ts c. c), (λ _. starts (snapshot r z) b.4.0 o.sound closed_now));
   })
 
   pub format_fails : (f : StoreFault) → StoreActs r s z (λ s z t. FormatsTo s z (Err f)) → Fails (r.past d) (r.medium d) (Format f)
@@ -103,31 +118,33 @@ module _ {P : History → Type 0} {m : Medium} {Q : History → Type 0} {R : His
     runs = λ h p.
         let g = w.runs h p in
         let t = g.0 in
-        let m₀ = g.1 in
+        let s₀ = g.1 in
+        let m₀ = s₀.medium in
         let ss = g.2 in
         let k = g.3 in
         let y = x.follows (calls_of ss ++ (t ++ h)) g.4 in
         let u = y.0 in
-        let r : Segment = segment u z.medium in
+        let r : Segment = segment u z in
         let e : calls_of (ss ++ r ∷ []) ≡ u ++ calls_of ss = calls_more ss r in
-        let goes = λ (q : Premise m₀ (u ++ calls_of ss)). each_goes c s z a u y.2 y.4 m₀ (calls_of ss) k q (g.10 (premise_before m₀ u (calls_of ss) q)) in (
+        let goes = λ (q : Premise m₀ (u ++ calls_of ss)). each_goes c s z a u y.2 y.4 m₀ (calls_of ss) k q (g.11 (premise_before m₀ u (calls_of ss) q)) in (
           t,
-          m₀,
+          s₀,
           ss ++ r ∷ [],
           recorded k c a,
           subst R (ap (λ v. v ++ (t ++ h)) (sym e)) (subst R (sym (append_assoc u (calls_of ss) (t ++ h))) y.1),
           g.5,
           g.6,
           g.7,
-          passes_more m₀ ss s.medium r g.8 y.2 y.3,
+          g.8,
+          passes_more s₀ cs bs ss s c a r g.9 y.4 y.2 y.3,
           λ ds es ts q.
               claims_as (Premise m₀) [] fresh _ _ _ _ _ _ (sym (append_assoc cs (c ∷ []) ds)) (sym (append_assoc bs (a ∷ []) es)) (sym (append_assoc ss (r ∷ []) ts))
-              (g.9 (c ∷ ds) (a ∷ es) (r ∷ ts) ((λ v. (goes v).1), subst (λ v. Claims (Premise m₀) v (recorded k c a) ds es ts) e q)),
+              (g.10 (c ∷ ds) (a ∷ es) (r ∷ ts) ((λ v. (goes v).1), subst (λ v. Claims (Premise m₀) v (recorded k c a) ds es ts) e q)),
           λ q. subst (λ v. Tracks m₀ v (recorded k c a) z) (sym e) (goes (subst (Premise m₀) e q)).0,
         );
   }
 
-pub going_all : {P : History → Type 0} {m : Medium} {Q : History → Type 0} (z : Snapshot) (cs : List Call) (bs : List (Result Answer StoreFault)) → Going P m Q z cs bs → Keeps Premise P m Q z.medium cs bs
+pub going_all : {P : History → Type 0} {m : Medium} {Q : History → Type 0} (z : Snapshot) (cs : List Call) (bs : List (Result Answer StoreFault)) → Going P m Q z cs bs → Keeps Premise P m Q z cs bs
 going_all z cs bs w = λ h p.
     let g = w.runs h p in
-    (g.0, g.1, g.2, g.4, g.5, g.6, g.7, g.8, claims_as (Premise g.1) [] fresh _ _ _ _ _ _ (append-nil cs) (append-nil bs) (append-nil g.2) (g.9 [] [] [] tt))
+    (g.0, g.1, g.2, g.4, g.5, g.6, g.7, g.8, g.9, claims_as (Premise g.1.medium) [] fresh _ _ _ _ _ _ (append-nil cs) (append-nil bs) (append-nil g.2) (g.10 [] [] [] tt))

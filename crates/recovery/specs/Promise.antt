@@ -9,12 +9,15 @@ use Rattle.faults.specs.declared.fault.StoreFault.{StoreFault}
 use Rattle.paged.specs.Paged.{pairs_on}
 use Rattle.walk.specs.Checking.{Holding, found_on}
 use Rattle.store.specs.Acting.{IsAllowed}
+use Rattle.store.specs.Client.{Does}
 use Rattle.store.specs.Formatting.{Fresh}
 use Rattle.store.specs.Model.{off}
+use Rattle.store.specs.Snapshots.{Snapshot}
 use Rattle.store.specs.declared.client.Answer.{Answer}
 use Rattle.store.specs.declared.client.Answer.TheVariants.{Number}
 use Rattle.store.specs.declared.client.Call.{Call}
 use Rattle.store.specs.declared.client.Call.TheVariants.{Open, Begin, Get, After, Abort, Commit, PowerReturn}
+use Rattle.store.specs.declared.state.State.TheVariants.{Shut}
 use Rattle.recovery.specs.Record.{Record, fresh, recorded}
 
 -- what an opening found on the medium: commit c, with exactly these pairs, in rising order, in a tree whose leaves lie
@@ -50,10 +53,10 @@ Claim k Abort a n = Unit {0}
 Claim k Commit a n = Unit {0}
 Claim k PowerReturn a n = Unit {0}
 
--- the device's calls in one call of the client, and the medium after them
+-- the device's calls in one call of the client, and the store after them
 pub record Segment : Type 0 where
   pub calls : History
-  pub after : Medium
+  pub after : Snapshot
 
 -- Of each call in turn: where what is asked of the device's calls up to its end holds of them, it answered as promised.
 -- The calls h came before these, and k was the record then.
@@ -64,21 +67,29 @@ Claims asked h k [] (a ∷ bs) ss = ⊥
 Claims asked h k (c ∷ cs) [] ss = ⊥
 Claims asked h k (c ∷ cs) (a ∷ bs) [] = ⊥
 Claims asked h k (c ∷ cs) (a ∷ bs) (s ∷ ss) =
-    (asked (s.calls ++ h) → Claim k c a s.after) × Claims asked (s.calls ++ h) (recorded k c a) cs bs ss
+    (asked (s.calls ++ h) → Claim k c a s.after.medium) × Claims asked (s.calls ++ h) (recorded k c a) cs bs ss
 
--- the segments one after another: they lead from m to n, by calls as the rules of a device allow them; and their calls,
--- newest first
-abbrev pub Passes : Medium → List Segment → Medium → Type 0
-Passes m [] n = n ≡ m
-Passes m (s ∷ ss) n = Leads m s.calls s.after × AllByRecursion IsAllowed s.calls × Passes s.after ss n
+-- the calls one after another: each did what the store promises of it and answered so, by the device's calls of its segment,
+-- which are such as the rules of a device allow; the store was s, and is z
+abbrev pub Passes : Snapshot → List Call → List (Result Answer StoreFault) → List Segment → Snapshot → Type 0
+Passes s [] [] [] z = z ≡ s
+Passes s [] [] (g ∷ gs) z = ⊥
+Passes s [] (a ∷ bs) gs z = ⊥
+Passes s (c ∷ cs) [] gs z = ⊥
+Passes s (c ∷ cs) (a ∷ bs) [] z = ⊥
+Passes s (c ∷ cs) (a ∷ bs) (g ∷ gs) z =
+    Does c s g.after a g.calls × Leads s.medium g.calls g.after.medium × AllByRecursion IsAllowed g.calls × Passes g.after cs bs gs z
 
+-- the device's calls in all of them, newest first
 abbrev pub calls_of : List Segment → History
 calls_of [] = []
 calls_of (s ∷ ss) = calls_of ss ++ s.calls
 
--- Whichever history led to the device, the calls that formatted it, and then those of each call of the script, lead on
--- from there; and each answer is as promised, if what is asked of the calls on the formatted device holds of those up to it.
-abbrev pub Keeps : (asked : Medium → History → Type 0) → (P : History → Type 0) → Medium → (Q : History → Type 0) → Medium → List Call → List (Result Answer StoreFault) → Type 0
-Keeps asked P m Q n script answers = (h : History) → P h
-    → (t : History) × (m₀ : Medium) × (ss : List Segment)
-    × Q (calls_of ss ++ (t ++ h)) × Leads m t m₀ × AllByRecursion IsAllowed t × Fresh m₀ × Passes m₀ ss n × Claims (asked m₀) [] fresh script answers ss
+-- Whichever history led to the device, the calls that formatted it, which left a store s that is shut, and then those of each
+-- call of the script lead on from there, up to the store z; and each answer is as promised, if what is asked of the calls on the
+-- formatted device holds of those up to it.
+abbrev pub Keeps : (asked : Medium → History → Type 0) → (P : History → Type 0) → Medium → (Q : History → Type 0) → (z : Snapshot) → List Call → List (Result Answer StoreFault) → Type 0
+Keeps asked P m Q z script answers = (h : History) → P h
+    → (t : History) × (s : Snapshot) × (gs : List Segment)
+    × Q (calls_of gs ++ (t ++ h)) × Leads m t s.medium × AllByRecursion IsAllowed t × Fresh s.medium × (s.state ≡ Shut)
+    × Passes s script answers gs z × Claims (asked s.medium) [] fresh script answers gs

@@ -4,6 +4,7 @@ use Rattle.device.specs.Medium.{Medium}
 use Rattle.device.specs.History.{History}
 use Rattle.faults.specs.declared.fault.StoreFault.TheVariants.{PageCount}
 use Rattle.store.specs.Model.{off}
+use Rattle.store.specs.Snapshots.{snap}
 use Rattle.store.specs.declared.client.Call.{Call}
 use Rattle.walk.specs.Checking.{fits_pages}
 use Rattle.recovery.specs.Promise.{Keeps}
@@ -22,5 +23,5 @@ Fails P m Memory = Unit {0}
 abbrev pub RunsTo : {D : Type 0} → (past : D → History → Type 0) → (medium : D → Medium) → (asked : Medium → History → Type 0) → (P : History → Type 0) → D → List Call → Result (Outcome D) RunFault → Type 0
 RunsTo past medium asked P d script a =
     MatchResult a
-    (λ o. Keeps asked P (medium d) (past o.store.device) (medium o.store.device) script o.answers.items)
+    (λ o. Keeps asked P (medium d) (past o.store.device) (snap (medium o.store.device) o.store.state o.store.held) script o.answers.items)
     (λ f. Fails P (medium d) f)

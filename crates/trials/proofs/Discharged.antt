@@ -19,8 +19,11 @@ use Rattle.recovery.specs.declared.fault.RunFault.TheVariants.{Format, Memory}
 use Rattle.recovery.specs.declared.running.Outcome.{Outcome}
 use Rattle.recovery.proofs.Runs.{premise_before}
 use Rattle.recovery.proofs.Tracks.{last_is}
+use Rattle.store.specs.Snapshots.{Snapshot, snap}
 use Rattle.store.specs.declared.client.Answer.{Answer}
 use Rattle.store.specs.declared.client.Call.{Call}
+use Rattle.store.specs.declared.state.State.{State}
+use Rattle.store.specs.declared.state.Held.{Held}
 use Rattle.trials.specs.Trials.{Anything, FromDurable}
 
 -- what was asked holds at the end, and so all along
@@ -61,26 +64,33 @@ faithful_premise : (m m₀ : Medium) (t u : History) → Leads m t m₀ → Dura
 faithful_premise m m₀ t [] l d f = tt
 faithful_premise m m₀ t (s ∷ u) l d f = (faithful_premise m m₀ t u l d f.0, shown m m₀ t u s.before s.event s.after l d f.1)
 
-passes_lead : (m : Medium) (ss : List Segment) (n : Medium) → Passes m ss n → Leads m (calls_of ss) n
-passes_lead m [] n p = p
-passes_lead m (s ∷ ss) n p = leads_more m s.after n s.calls (calls_of ss) p.0 (passes_lead s.after ss n p.2)
+passes_lead : (s : Snapshot) (cs : List Call) (bs : List (Result Answer StoreFault)) (gs : List Segment) (z : Snapshot) → Passes s cs bs gs z → Leads s.medium (calls_of gs) z.medium
+passes_lead s [] [] [] z p = ap (λ (v : Snapshot). v.medium) p
+passes_lead s [] [] (g ∷ gs) z p = absurd p
+passes_lead s [] (b ∷ bs) gs z p = absurd p
+passes_lead s (c ∷ cs) [] gs z p = absurd p
+passes_lead s (c ∷ cs) (b ∷ bs) [] z p = absurd p
+passes_lead s (c ∷ cs) (b ∷ bs) (g ∷ gs) z p = leads_more s.medium g.after.medium z.medium g.calls (calls_of gs) p.1 (passes_lead g.after cs bs gs z p.3)
 
 -- of either kind of disk, from one that is durable on
-met : (at_once : Bool) (durable : ℕ → List ℕ) (m m₀ n : Medium) (t : History) (ss : List Segment) → Durable m → Leads m t m₀ → Durable m₀ → Passes m₀ ss n
-    → Accounts at_once durable n (calls_of ss ++ t) → Premise m₀ (calls_of ss)
-met true durable m m₀ n t ss d l e p a = never_premise m₀ (calls_of ss) t a
-met false durable m m₀ n t ss d l e p a = faithful_premise m m₀ t (calls_of ss) l e (a m d (leads_more m m₀ n t (calls_of ss) l (passes_lead m₀ ss n p))).0
+met : (at_once : Bool) (durable : ℕ → List ℕ) (m m₀ n : Medium) (t u : History) → Durable m → Leads m t m₀ → Durable m₀ → Leads m₀ u n
+    → Accounts at_once durable n (u ++ t) → Premise m₀ u
+met true durable m m₀ n t u d l e p a = never_premise m₀ u t a
+met false durable m m₀ n t u d l e p a = faithful_premise m m₀ t u l e (a m d (leads_more m m₀ n t u l p)).0
 
 -- a run over the disk d
 module _ {S : Type 0} {g : Ghosts S} (d : Disk S g) where
-  kept : (e : Disk S g) (cs : List Call) (bs : List (Result Answer StoreFault)) → Keeps Premise (disk_past d) (disk_medium d) (disk_past e) (disk_medium e) cs bs
-      → Keeps Anything (FromDurable (disk_past d) (disk_medium d)) (disk_medium d) (disk_past e) (disk_medium e) cs bs
-  kept e cs bs w h (p, q) =
+  kept : (e : Disk S g) (state : State) (held : Held) (cs : List Call) (bs : List (Result Answer StoreFault))
+      → Keeps Premise (disk_past d) (disk_medium d) (disk_past e) (snap (disk_medium e) state held) cs bs
+      → Keeps Anything (FromDurable (disk_past d) (disk_medium d)) (disk_medium d) (disk_past e) (snap (disk_medium e) state held) cs bs
+  kept e state held cs bs w h (p, q) =
       let k = w h p in
       let base = q.0 in
-      let all : Premise k.1 (calls_of k.2) =
-      met g.at_once (λ p. (page_at (pages_of e) p).durable) base k.1 (disk_medium e) (k.0 ++ h) k.2 q.1 (leads_more base (disk_medium d) k.1 h k.0 q.2 k.4) k.6.durable k.7 k.3 in
-      (k.0, k.1, k.2, k.3, k.4, k.5, k.6, k.7, claims_met (Premise k.1) k.1 (premise_before k.1) [] _ cs bs k.2 (subst (Premise k.1) (sym (append-nil (calls_of k.2))) all) k.8)
+      let m₀ = k.1.medium in
+      let u = calls_of k.2 in
+      let all : Premise m₀ u =
+      met g.at_once (λ p. (page_at (pages_of e) p).durable) base m₀ (disk_medium e) (k.0 ++ h) u q.1 (leads_more base (disk_medium d) m₀ h k.0 q.2 k.4) k.6.durable (passes_lead k.1 cs bs k.2 _ k.8) k.3 in
+      (k.0, k.1, k.2, k.3, k.4, k.5, k.6, k.7, k.8, claims_met (Premise m₀) m₀ (premise_before m₀) [] _ cs bs k.2 (subst (Premise m₀) (sym (append-nil u)) all) k.9)
 
   fails : (f : RunFault) → Fails (disk_past d) (disk_medium d) f → Fails (FromDurable (disk_past d) (disk_medium d)) (disk_medium d) f
   fails (Format f) w = λ h p. w h p.0
@@ -88,7 +98,7 @@ module _ {S : Type 0} {g : Ghosts S} (d : Disk S g) where
 
   pub discharged : (cs : List Call) (r : Result (Outcome (Disk S g)) RunFault) → RunsTo disk_past disk_medium Premise (disk_past d) d cs r
       → RunsTo disk_past disk_medium Anything (FromDurable (disk_past d) (disk_medium d)) d cs r
-  discharged cs (Ok o) w = kept o.store.device cs o.answers.items w
+  discharged cs (Ok o) w = kept o.store.device o.store.state o.store.held cs o.answers.items w
   discharged cs (Err f) w = fails f w
 
 -- a blank page is durable

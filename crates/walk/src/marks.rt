@@ -4,7 +4,8 @@ ghost use Rattle.walk.specs.Marking.{MarksAre, free};
 // The most pages that a device may have.
 pub(crate) const MOST_PAGES: usize = 1024;
 
-// Marks on pages. (A page's number is cast to its place among them: it fits, since a `usize` is as wide at least.)
+// Marks on pages, one for each page of the largest device: fixed memory, as a store needs no heap. (A page's number is cast
+// to its place among them: it fits, since a `usize` is as wide at least.)
 #[derive(Clone, Copy)]
 pub struct Marks {
     marked: [bool; MOST_PAGES],

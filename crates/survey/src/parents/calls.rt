@@ -45,7 +45,6 @@ impl Parents {
     }
 
     // The parents of the marked pages of a reader: each marked page that reads as a branch is the parent of its children.
-    // A marked page is read once.
     pub fn of<R: Reader>(reader: &mut R, marks: &Marks) -> Result<Parents, DeviceFault>
         ensures { LooksOn R.Reader reader.old reader.new (λ m n _. TellsParents m.bytes m.size marks.now.marked n.on result) }
     {
