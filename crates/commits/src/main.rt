@@ -3,9 +3,11 @@
 #![tactic(auto)]
 
 use anyhow::{Context, bail};
-use disks::{AtOnce, AtSync, Disk, Stored};
+use device::Device;
+use disks::{AtOnce, AtSync, Disk, Stored, WriteBehind};
+use faults::StoreFault;
 use recovery::Outcome;
-use store::{Answer, Call};
+use store::{Answer, Call, Store};
 use trials::run_on_disk;
 
 const PAGES: u32 = 16;
@@ -65,7 +67,25 @@ fn show_cut(rt: &HostRuntime, k: usize, limit: u64, name: &str) -> anyhow::Resul
     Ok(())
 }
 
+// A transaction as a client makes it: it begins, which hands out a ticket, and commits, which takes it back.
+fn commit_once<D: Device>(store: &mut Store<D>) -> Result<u64, StoreFault> {
+    let ticket = store.begin()?;
+    store.commit(ticket)
+}
+
+fn show_commits(rt: &HostRuntime) -> anyhow::Result<()> {
+    let mut store = Store::new(WriteBehind::new(rt.alloc(), PAGES, 0)?);
+    store.format()?;
+    store.open()?;
+    let first = commit_once(&mut store)?;
+    let second = commit_once(&mut store)?;
+    println!(rt; "two commits of a store: {first} and {second}")?;
+    Ok(())
+}
+
 fn run(rt: &HostRuntime) -> anyhow::Result<()> {
+    show_commits(rt)?;
+    println!(rt; "power fails on a call of the second:")?;
     println!(rt;
         " k  power fails on              answer      write-behind  write-through  expected"
     )?;
