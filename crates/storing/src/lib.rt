@@ -2,9 +2,9 @@
 #![tactic(auto)]
 
 #[cfg(test)]
-mod cuts;
-#[cfg(test)]
 mod keys;
+#[cfg(test)]
+mod losses;
 #[cfg(test)]
 mod numbers;
 #[cfg(test)]
