@@ -2,7 +2,7 @@
 // back, on a disk that loses what was not synced, and on one that loses nothing, beside what a client has to expect.
 #![tactic(auto)]
 
-use anyhow::{Context, bail};
+use anyhow::bail;
 use device::Device;
 use disks::{AtOnce, AtSync, Disk, Stored, WriteBehind};
 use faults::StoreFault;
@@ -21,10 +21,11 @@ const CUTS: [(u64, &str); 4] = [
     (16, "the last sync"),
 ];
 
-// What the second commit answered: its number, or none if power failed. And the number that was found.
+// What the commits answered, and the number that an opening found afterwards.
 #[derive(Clone, Copy)]
 struct Seen {
-    answered: Option<u64>,
+    first: u64,
+    second: Result<u64, StoreFault>,
     found: u64,
 }
 
@@ -47,23 +48,44 @@ fn see<S: Stored>(rt: &HostRuntime, limit: u64) -> anyhow::Result<Seen> {
         Call::Open,
     ];
     let Outcome { store: _, answers } = run_on_disk(rt.alloc(), disk, &script)?;
-    let commit = *answers.get(4).context("no answer to the commit")?;
-    let opening = *answers.last().context("no answer to the opening")?;
+    let [_, _, first, _, second, _, opening] = answers.as_slice() else {
+        bail!("not an answer for each call");
+    };
     Ok(Seen {
-        answered: commit.ok().map(number).transpose()?,
-        found: number(opening?)?,
+        first: number((*first)?)?,
+        second: match *second {
+            Ok(answer) => Ok(number(answer)?),
+            Err(fault) => Err(fault),
+        },
+        found: number((*opening)?)?,
+    })
+}
+
+// The number that a client has to expect: the one that was answered, or where none was, the one before it or the next.
+fn expected(rt: &HostRuntime, seen: &Seen) -> anyhow::Result<String> {
+    Ok(match seen.second {
+        Ok(second) => format!(in rt.alloc(); "{second}")?,
+        Err(_) => format!(in rt.alloc(); "{} or {}", seen.first, seen.first.saturating_add(1))?,
+    })
+}
+
+fn answer(rt: &HostRuntime, seen: &Seen) -> anyhow::Result<String> {
+    Ok(match seen.second {
+        Ok(second) => format!(in rt.alloc(); "{second}")?,
+        Err(fault) => format!(in rt.alloc(); "{fault}")?,
     })
 }
 
 fn show_cut(rt: &HostRuntime, k: usize, limit: u64, name: &str) -> anyhow::Result<()> {
     let behind = see::<AtSync>(rt, limit)?;
     let through = see::<AtOnce>(rt, limit)?;
-    let (answer, expected) = match behind.answered {
-        Some(_) => ("2", "2"),
-        None => ("device off", "1 or 2"),
-    };
+    if behind.second != through.second {
+        bail!("the disks answer differently");
+    }
+    let answer = answer(rt, &behind)?;
+    let expected = expected(rt, &behind)?;
     let (first, second) = (behind.found, through.found);
-    println!(rt; "{k:>2}  {name:<26}  {answer:<10}  {first:<12}  {second:<13}  {expected}")?;
+    println!(rt; "{k:>2}  {name:<26}  {answer:<20}  {first:<12}  {second:<13}  {expected}")?;
     Ok(())
 }
 
@@ -87,7 +109,7 @@ fn run(rt: &HostRuntime) -> anyhow::Result<()> {
     show_commits(rt)?;
     println!(rt; "power fails on a call of the second:")?;
     println!(rt;
-        " k  power fails on              answer      write-behind  write-through  expected"
+        " k  power fails on              the commit answers    write-behind  write-through  expected"
     )?;
     for (k, (limit, name)) in CUTS.iter().enumerate() {
         show_cut(rt, k, *limit, name)?;
