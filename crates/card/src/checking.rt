@@ -1,5 +1,5 @@
 // `card check`: a line for each card.
-use crate::image_file::image;
+use crate::files::image;
 use crate::status::Status;
 use survey::Verdict;
 

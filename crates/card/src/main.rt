@@ -1,4 +1,4 @@
-// Looks at the image of a card: whether it is sound, and what each of its pages is.
+// Looks at the image of a card, whether it is sound, and what each of its pages is; and makes that of a new one.
 #![tactic(auto)]
 
 use anyhow::Context;
@@ -6,7 +6,8 @@ use clap::ArgMatches;
 use std::process::ExitCode;
 
 mod checking;
-mod image_file;
+mod files;
+mod formatting;
 mod pages;
 mod status;
 #[cfg(test)]
@@ -20,6 +21,7 @@ fn answer(rt: &HostRuntime, matches: &ArgMatches<'_>) -> anyhow::Result<Status> 
     match words::asked(matches).context("no command was given")? {
         Task::Check(files) => checking::check(rt, files),
         Task::Pages(file) => pages::show(rt, file),
+        Task::Format(card) => formatting::format(rt, &card),
     }
 }
 

@@ -1,5 +1,5 @@
 // `card pages`: a line for each page of a card.
-use crate::image_file::image;
+use crate::files::image;
 use crate::status::Status;
 use device::{PAGE_SIZE, Reader};
 use disks::Image;

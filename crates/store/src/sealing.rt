@@ -12,5 +12,5 @@ pub(crate) fn seal<D: Device>(device: &mut D, meta: &Meta) -> Result<(), DeviceF
     let page = meta.encode();
     // it fits: 0 or 1
     device.write((meta.commit % 2) as u32, &page)?;
-    device.sync()
+    device.sync() // and this too is durable
 }

@@ -44,7 +44,7 @@ impl<D: Device> Store<D> {
         ensures cleared { OnErr result (buffer.new ≡ zeros) }
         ensures model { ReadsOut D.Reader self.old self.new (is_key key.now) (pair_with key.now) result buffer.new }
     {
-        *buffer = [0; PAGE_SIZE];
+        *buffer = [0; PAGE_SIZE]; // and so it stays, whatever is refused
         let meta = self.state.version()?;
         let 1..=64 = key.len() else {
             return Err(StoreFault::KeyLength);
@@ -57,7 +57,7 @@ impl<D: Device> Store<D> {
         ensures cleared { OnErr result (buffer.new ≡ zeros) }
         ensures model { ReadsOut D.Reader self.old self.new (is_short key.now) (first_above key.now) result buffer.new }
     {
-        *buffer = [0; PAGE_SIZE];
+        *buffer = [0; PAGE_SIZE]; // as in get
         let meta = self.state.version()?;
         let 0..=64 = key.len() else {
             return Err(StoreFault::KeyLength);

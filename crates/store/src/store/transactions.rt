@@ -27,6 +27,19 @@ impl<D: Device> Store<D> {
         }
     }
 
+    // Gives the device back as it is. In a transaction the working map is dropped; there is a ticket then, which is to
+    // be handed to another store.
+    pub fn into_device(self) -> D
+        ensures { result ≡ self.device }
+    {
+        let Store {
+            device,
+            state: _,
+            held: _,
+        } = self;
+        device
+    }
+
     // Begins a transaction: the working map is the committed one.
     pub fn begin(&mut self) -> Result<Ticket, StoreFault>
         ensures device { self.new.device ≡ self.old.device }

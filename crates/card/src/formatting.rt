@@ -1,0 +1,37 @@
+// `card format`: makes the image of a new card.
+use crate::files::{save, told};
+use crate::status::Status;
+use crate::words::NewCard;
+use device::{PAGE_SIZE, Reader};
+use disks::WriteThrough;
+use std::alloc::Global;
+use store::Store;
+use walk::check_room;
+
+// The bytes of a card of so many pages, as a store formats it.
+pub fn formatted(alloc: Global, pages: u32) -> anyhow::Result<Vec<u8>> {
+    // tested before there is a disk, which may be too large for the memory
+    check_room(pages)?;
+    let mut store = Store::new(WriteThrough::new(alloc, pages, 0)?);
+    store.format()?;
+    let mut disk = store.into_device();
+    let mut bytes = Vec::new(alloc);
+    for page in 0..pages {
+        let mut buffer = [0; PAGE_SIZE];
+        disk.read(page, &mut buffer)?;
+        bytes.extend_from_slice(&buffer)?;
+    }
+    Ok(bytes)
+}
+
+fn make(rt: &HostRuntime, card: &NewCard<'_>) -> anyhow::Result<()> {
+    let bytes = formatted(rt.alloc(), card.pages)?;
+    save(rt, card.file, &bytes, card.replaces)
+}
+
+pub fn format(rt: &HostRuntime, card: &NewCard<'_>) -> anyhow::Result<Status> {
+    Ok(match told(rt, card.file, make(rt, card))? {
+        Some(()) => Status::Fine,
+        None => Status::Trouble,
+    })
+}
