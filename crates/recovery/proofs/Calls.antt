@@ -1,15 +1,12 @@
 -- Each call that at most reads, and a power return: the store goes on as the record does.
-use Rattle.std.proofs.Common.{Bool, List, ◌++◌, Option, Result, sym, refl, ap, ◌∙◌, subst, inl}
+use Rattle.std.proofs.Common.{Bool, List, ◌++◌, Option, Result, sym, refl, ap, ◌∙◌, subst}
 use Rattle.std.specs.List.{AllByRecursion}
-use Rattle.std.proofs.ByRecursion.{All-weaker}
 use Rattle.cuts.specs.Nodes.{Pair}
 use Rattle.device.specs.Medium.{Medium}
 use Rattle.device.specs.History.{History, Leads}
-use Rattle.device.specs.Looking.{IsRead}
 use Rattle.faults.specs.declared.fault.StoreFault.{StoreFault}
 use Rattle.store.specs.Client.{Does, Steps, ReadsMap, answered}
 use Rattle.store.specs.Model.{Model, Stepped}
-use Rattle.store.specs.Opening.{IsQuiet}
 use Rattle.store.specs.Reading.{version_of}
 use Rattle.store.specs.Snapshots.{Snapshot, model_at}
 use Rattle.store.specs.Versions.{Sound, model_of}
@@ -21,7 +18,7 @@ use Rattle.recovery.specs.Premise.{Premise}
 use Rattle.recovery.specs.Promise.{Claim}
 use Rattle.recovery.specs.Record.{Record, no_working, unless_off, recorded}
 use Rattle.recovery.proofs.Safe.{other, return_safe}
-use Rattle.recovery.proofs.Tracks.{Agrees, Tracks, Alike, alike_safe, quieted}
+use Rattle.recovery.proofs.Tracks.{Agrees, Tracks, Alike, alike_safe, IsQuiet, reads_quiet, quieted}
 use Rattle.recovery.proofs.Models.{alike_no_working, alike_unless, reads_agrees}
 
 -- One call of the client, by the calls t of the device, with its answer: where the record was that of the store before it,
@@ -46,14 +43,14 @@ module _ (s z : Snapshot) (a : Result Answer StoreFault) (t : History) (l : Lead
   pub read_tracks : (fits : Bool) (want : List Pair → Option Pair) → ReadsMap fits want s z a t → Tracks base (t ++ h) (unless_off a k) z
   read_tracks fits want (r, buffer, q, reads, o) =
       let b = o i.sound in
-      quieted base h k (unless_off a k) s z t l (All-weaker IsRead IsQuiet (λ _ r. inl r) t reads) (alike_unless k a) b.sound
+      quieted base h k (unless_off a k) s z t l (reads_quiet _ t reads) (alike_unless k a) b.sound
       (subst (Agrees (unless_off a k)) (sym b.becomes)
       (rw q (reads_agrees s.medium.bytes (version_of s.state) r buffer k z.medium.on fits want (model_at s) i.agrees b.hands)))
       i
 
   -- a power return
   pub return_tracks : Does PowerReturn s z a t → Premise base (t ++ h) → Tracks base (t ++ h) (no_working k) z
-  return_tracks (q, w, r, e) =
+  return_tracks (q, w, _, r, e) =
       subst (λ u. Premise base (u ++ h) → Tracks base (u ++ h) (no_working k) z) (sym e)
       (λ p. record {
         version = i.version;

@@ -15,7 +15,6 @@ use Rattle.meta.specs.declared.Meta.{Meta}
 use Rattle.store.specs.Client.{answered}
 use Rattle.store.specs.Model.{shut, idle, commits}
 use Rattle.store.specs.Calls.{Obeys, SealedBy, Commits}
-use Rattle.store.specs.Opening.{IsQuiet}
 use Rattle.store.specs.Sealing.{page_for, ComesToLast, Seals}
 use Rattle.store.specs.Snapshots.{Snapshot, snap, IsSound, model_at}
 use Rattle.store.specs.Versions.{pages_held, pairs_held, Stands}
@@ -29,7 +28,7 @@ use Rattle.store.proofs.Kept.{all_true, stands_keep, pairs_keep}
 use Rattle.store.proofs.Commits.{same, sealed, cut_off}
 use Rattle.recovery.specs.Record.{Record, record_of, no_working, committed_by, now_in_doubt, now_committed}
 use Rattle.recovery.proofs.Safe.{Whole, Safe, other, doubting, write_safe, mild_before}
-use Rattle.recovery.proofs.Tracks.{Agrees, Tracks, settled_safe, quiet_calls, quieted}
+use Rattle.recovery.proofs.Tracks.{Agrees, Tracks, settled_safe, IsQuiet, quiet_calls, quieted}
 use Rattle.recovery.proofs.Models.{alike_no_working}
 
 -- a write that at most changed its page, and left there what was written or what was there

@@ -21,7 +21,7 @@ use Rattle.walk.specs.Checking.{fits_pages, newest_in, holding, held_by, found_o
 use Rattle.faults.specs.declared.fault.StoreFault.TheVariants.{InTransaction as IsInTransaction}
 use Rattle.store.specs.Client.{answered}
 use Rattle.store.specs.Model.{Model, shut, idle, active, Stepped, off, opened, opens}
-use Rattle.store.specs.Opening.{map_in, IsQuiet, map_on, Ready, Opens}
+use Rattle.store.specs.Opening.{map_in, map_on, Ready, Opens}
 use Rattle.store.specs.Snapshots.{Snapshot, IsSound, model_at}
 use Rattle.store.specs.Versions.{height_of, tree_of, pairs_held, Sound}
 use Rattle.store.specs.declared.client.Answer.{Answer}
@@ -31,7 +31,7 @@ use Rattle.store.proofs.Found.{read_tells}
 use Rattle.recovery.specs.Promise.{Finds, OpensWell, Outside, Claim}
 use Rattle.recovery.specs.Record.{Record, record_of, no_working, no_doubt, opened_by}
 use Rattle.recovery.proofs.Safe.{Whole, Doubt, Safe, mine, other, Newest, itself, doubtful, newest_of, mild_before}
-use Rattle.recovery.proofs.Tracks.{Agrees, Tracks, settled_safe, quiet_keeps, quiet_on, quiet_calls, quieted}
+use Rattle.recovery.proofs.Tracks.{Agrees, Tracks, settled_safe, IsQuiet, opening_quiet, quiet_keeps, quiet_on, quiet_calls, quieted}
 use Rattle.recovery.proofs.Models.{alike_same, alike_no_working}
 
 -- what an opening finds on a medium with this version
@@ -186,4 +186,4 @@ module _ (s z : Snapshot) (t : History) (l : Leads s.medium t z.medium) (base : 
   pub open_goes : (a : Result Answer StoreFault) → (r : Result ℕ StoreFault) × (a ≡ answered Number r) × Opens s z t r → Goes-on a
   open_goes a (r, e, o) =
       let b = o.1 (ready s.medium s.state s.held i.sound) in
-      subst Goes-on (sym (e ∙ ap (answered Number) b.answers)) (by_model (model_at s) o.0 b.sound i.agrees b.becomes)
+      subst Goes-on (sym (e ∙ ap (answered Number) b.answers)) (by_model (model_at s) (opening_quiet _ s.medium t o.0) b.sound i.agrees b.becomes)

@@ -96,19 +96,19 @@ module _ {D : Type 0} (r : Ghosts D) (d : D) (s z : Store D) (same : s.device �
   sound : IsSound (snapshot r s)
   sound = subst (λ v. Sound (r.medium s.device) v s.held) (sym closed) tt
 
-  pub going_none : StoreActs r s z (λ s z t. FormatsTo s z (Ok tt)) → Going (r.past d) (r.medium d) (r.past z.device) (snapshot r z) [] []
+  pub going_none : StoreActs r s z (λ s z t. FormatsTo s z t (Ok tt)) → Going (r.past d) (r.medium d) (r.past z.device) (snapshot r z) [] []
   going_none w = subst (λ (e : D). Going (r.past e) (r.medium e) (r.past z.device) (snapshot r z) [] []) same (record {
     runs = λ h p.
         let b = w.follows h p in
-        let o = b.4.1 sound in
+        let o = b.4.2 sound in
         let closed_now = o.becomes ∙ formats_shut _ _ _ o.answers in
-        (b.0, snapshot r z, [], fresh, b.1, b.2, b.3, b.4.0, shut_state _ _ closed_now, refl, (λ ds es ts c. c), (λ _. starts (snapshot r z) b.4.0 o.sound closed_now));
+        (b.0, snapshot r z, [], fresh, b.1, b.2, b.3, b.4.1, shut_state _ _ closed_now, refl, (λ ds es ts c. c), (λ _. starts (snapshot r z) b.4.1 o.sound closed_now));
   })
 
-  pub format_fails : (f : StoreFault) → StoreActs r s z (λ s z t. FormatsTo s z (Err f)) → Fails (r.past d) (r.medium d) (Format f)
+  pub format_fails : (f : StoreFault) → StoreActs r s z (λ s z t. FormatsTo s z t (Err f)) → Fails (r.past d) (r.medium d) (Format f)
   format_fails f w = subst (λ (e : D). Fails (r.past e) (r.medium e) (Format f)) same
       (λ h p.
-      let o = (w.follows h p).4.1 sound in
+      let o = (w.follows h p).4.2 sound in
       formats_refused _ _ f (o.answers ∙ ap (λ v. (formats (r.medium z.device).on (fits_pages (r.medium s.device).size) (model_of (r.medium s.device).bytes v)).answer) closed))
 
 module _ {P : History → Type 0} {m : Medium} {Q : History → Type 0} {R : History → Type 0} (s z : Snapshot) (cs : List Call) (bs : List (Result Answer StoreFault)) (c : Call) (a : Result Answer StoreFault) where

@@ -1,10 +1,12 @@
 -- The store and the client's record, from call to call.
-use Rattle.std.proofs.Common.{◌≡◌, ℕ, true, false, List, [], ◌∷◌, ◌++◌, Some, None, Ok, Err, Result, sym, ap, ◌∙◌, subst, inl, inr, ⊎_elim}
+use Rattle.std.proofs.Common.{◌≡◌, ℕ, Bool, true, false, ◌⊎◌, List, [], ◌∷◌, ◌++◌, Some, None, Ok, Err, Result, sym, refl, ap, ◌∙◌, subst, inl, inr, ⊎_elim}
 use Rattle.std.specs.List.{AllByRecursion}
+use Rattle.std.proofs.ByRecursion.{All-append, All-weaker}
 use Rattle.std.proofs.lemmas.Bool.{both_ways}
 use Rattle.device.specs.Medium.{Medium}
 use Rattle.device.specs.Calls.{Keeps, Reads, Syncs}
-use Rattle.device.specs.History.{Step, History, Leads, last_durable, written_by}
+use Rattle.device.specs.History.{Step, step, History, Leads, did_sync, last_durable, written_by}
+use Rattle.device.specs.Looking.{IsRead}
 use Rattle.device.specs.declared.fault.DeviceFault.{DeviceFault}
 use Rattle.device.specs.declared.fault.DeviceFault.TheVariants.{Outside, Off}
 use Rattle.device.proofs.Looking.{keeps_same, keeps_more, read_keeps, leads_more}
@@ -12,7 +14,8 @@ use Rattle.meta.specs.Layout.{meta_page}
 use Rattle.meta.specs.declared.Meta.{Meta}
 use Rattle.walk.specs.Checking.{fits_pages}
 use Rattle.store.specs.Model.{Model, shut, idle, active}
-use Rattle.store.specs.Opening.{IsQuiet}
+use Rattle.store.specs.Acting.{CallsIf}
+use Rattle.store.specs.Opening.{SyncsAndReads}
 use Rattle.store.specs.Snapshots.{Snapshot, IsSound, model_at}
 use Rattle.store.specs.Versions.{pairs_held}
 use Rattle.recovery.specs.Record.{Record}
@@ -95,6 +98,20 @@ read_on : (m : Medium) (p : ℕ) (b : List ℕ) (a : Result Unit DeviceFault) (n
 read_on m p b (Ok u) n r e = r.1.was_on
 read_on m p b (Err Outside) n r e = ap (λ z. z.on) (sym r.2) ∙ e
 read_on m p b (Err Off) n r e = absurd (both_ways n.on r.1.is_off e)
+
+-- the step is a read or a sync
+abbrev pub IsQuiet : Step → Type 0
+IsQuiet s = IsRead s ⊎ ((a : Result Unit DeviceFault) × (s.event ≡ did_sync a) × Syncs s.before a s.after)
+
+-- the calls of a read and of an opening are such
+pub reads_quiet : (b : Bool) (t : History) → CallsIf b t (AllByRecursion IsRead t) → AllByRecursion IsQuiet t
+reads_quiet true t r = All-weaker IsRead IsQuiet (λ _ i. inl i) t r
+reads_quiet false t r = subst (AllByRecursion IsQuiet) (sym r) tt
+
+pub opening_quiet : (b : Bool) (m : Medium) (t : History) → CallsIf b t (SyncsAndReads m t) → AllByRecursion IsQuiet t
+opening_quiet true m t (n, a, u, e, s, r, _) =
+    subst (AllByRecursion IsQuiet) (sym e) (All-append IsQuiet u (step m (did_sync a) n ∷ []) (All-weaker IsRead IsQuiet (λ _ i. inl i) u r) (inr (a, refl, s), tt))
+opening_quiet false m t e = subst (AllByRecursion IsQuiet) (sym e) tt
 
 -- what such a call keeps: the pages, and the last write to each; and that the device was on, if it still is
 pub record Quiet (s : Step) : Type 0 where

@@ -1,12 +1,13 @@
 -- How stretches of calls are put together.
-use Rattle.std.proofs.Common.{[], ◌∷◌, ◌++◌, sym, refl, subst, append_assoc}
+use Rattle.std.proofs.Common.{◌≡◌, List, [], ◌∷◌, ◌++◌, sym, refl, ◌∙◌, subst, append_assoc}
 use Rattle.std.specs.List.{AllByRecursion}
 use Rattle.std.proofs.ByRecursion.{All-append, All-weaker}
+use Rattle.std.proofs.lemmas.List.{map-append}
 use Rattle.device.specs.Medium.{Medium}
 use Rattle.device.specs.History.{Event, Step, step, History, Leads, Allowed, Happens}
 use Rattle.device.specs.Looking.{IsRead, Looks}
 use Rattle.device.proofs.Looking.{leads_more}
-use Rattle.store.specs.Acting.{IsAllowed, Acts}
+use Rattle.store.specs.Acting.{IsAllowed, Acts, events_of}
 
 pub acts_none : {P : History → Type 0} {m : Medium} (F : History → Type 0) → ((h : History) → P h → F []) → Acts P m P m F
 acts_none F f = record { follows = λ h p. ([], p, refl, tt, f h p) }
@@ -32,6 +33,9 @@ acts_more {P} {m} {Q} {n} {R} {o} F G H k l f = record {
         f t u a.2 a.3 b.2 b.3 a.4 b.4,
       );
 }
+
+pub events_more : (t u : History) (es fs : List Event) → events_of t ≡ es → events_of u ≡ fs → events_of (u ++ t) ≡ fs ++ es
+events_more t u es fs e f = map-append (λ (s : Step). s.event) u t ∙ (λ k. f k ++ e k)
 
 pub acts_weaker : {P : History → Type 0} {m : Medium} {Q : History → Type 0} {n : Medium} (F G : History → Type 0)
     → Acts P m Q n F → ((t : History) → Leads m t n → F t → G t) → Acts P m Q n G

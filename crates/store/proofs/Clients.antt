@@ -1,17 +1,20 @@
 -- Each call of a client, from what the store promises of it.
 use Rattle.std.proofs.Common.{◌≡◌, ℕ, List, Ok, Err, MatchResult, IsOkAnd, vec_items, Result, Option, Bool, Vec, sym, refl, ap, subst}
+use Rattle.std.specs.List.{AllByRecursion}
 use Rattle.std.specs.declared.alloc.Global.{Global}
 use Rattle.cuts.specs.Nodes.{Pair}
 use Rattle.device.specs.Medium.{Medium}
 use Rattle.device.specs.History.{History, Happens, power_returned}
-use Rattle.device.specs.Looking.{Looks}
+use Rattle.device.specs.Looking.{IsRead, Looks}
 use Rattle.faults.specs.declared.fault.StoreFault.{StoreFault}
-use Rattle.store.specs.Acting.{Acts}
+use Rattle.store.specs.Acting.{Acts, CallsIf}
 use Rattle.store.specs.Calls.{ObeysIfSound}
 use Rattle.store.specs.Client.{Does, ReadsMap, Steps, answered}
 use Rattle.store.specs.Model.{Model, Stepped}
 use Rattle.store.specs.Reading.{HandsIfSound}
 use Rattle.store.specs.Snapshots.{Snapshot, snap}
+use Rattle.store.specs.States.{can_read}
+use Rattle.store.specs.Versions.{Forgotten}
 use Rattle.store.specs.declared.client.Answer.{Answer}
 use Rattle.store.specs.declared.client.Answer.TheVariants.{Cell, Done}
 use Rattle.store.specs.declared.client.Call.{Call}
@@ -45,11 +48,17 @@ module _ (P : History → Type 0) (m : Medium) (Q : History → Type 0) (n : Med
   pub read_acts : (l : Vec ℕ Global → Call) (fits : List ℕ → Bool) (want : List ℕ → List Pair → Option Pair)
       → ((v : Vec ℕ Global) (t : History) → ReadsMap (fits (vec_items v)) (want (vec_items v)) (snap m s b) (snap n z c) a t → Does (l v) (snap m s b) (snap n z c) a t)
       → (v : Vec ℕ Global) (key : List ℕ) (r : Result ℕ StoreFault) (buffer : List ℕ) → k ≡ l v → a ≡ answered Cell r → key ≡ vec_items v
-      → Looks P m Q n (λ _. HandsIfSound (snap m s b) (snap n z c) (fits key) (want key) r buffer) → ActsAs
+      → Looks P m Q n (λ t. CallsIf (can_read s (fits key)) t (AllByRecursion IsRead t) × HandsIfSound (snap m s b) (snap n z c) (fits key) (want key) r buffer) → ActsAs
   read_acts l fits want is v key r buffer e q w looks =
       subst (λ (k : Call). Acts P m Q n (λ t. Does k (snap m s b) (snap n z c) a t)) (sym e)
-      (acts_looks _ _ looks (λ t _ reads h. is v t (r, buffer, q, reads, subst (λ y. HandsIfSound (snap m s b) (snap n z c) (fits y) (want y) r buffer) w h)))
+      (acts_looks _ _ looks (λ t _ _ h. is v t (
+        r,
+        buffer,
+        q,
+        subst (λ y. CallsIf (can_read s (fits y)) t (AllByRecursion IsRead t)) w h.0,
+        subst (λ y. HandsIfSound (snap m s b) (snap n z c) (fits y) (want y) r buffer) w h.1,
+      )))
 
-  pub return_acts : k ≡ PowerReturn → a ≡ Ok Done → z ≡ Shut → Happens P m power_returned Q n → ActsAs
-  return_acts e q w h =
-      subst (λ (k : Call). Acts P m Q n (λ t. Does k (snap m s b) (snap n z c) a t)) (sym e) (acts_one _ power_returned h (λ r. (q, w, r, refl)))
+  pub return_acts : k ≡ PowerReturn → a ≡ Ok Done → z ≡ Shut → Forgotten c → Happens P m power_returned Q n → ActsAs
+  return_acts e q w f h =
+      subst (λ (k : Call). Acts P m Q n (λ t. Does k (snap m s b) (snap n z c) a t)) (sym e) (acts_one _ power_returned h (λ r. (q, w, f, r, refl)))

@@ -1,11 +1,12 @@
 -- What get and after hand out, by what their search found.
-use Rattle.std.proofs.Common.{◌≡◌, ℕ, ◌<◌, Bool, true, false, List, Some, None, Ok, Err, Option, Result, sym, refl, ap, subst}
+use Rattle.std.proofs.Common.{◌≡◌, ℕ, ◌<◌, Bool, true, false, List, [], Some, None, Ok, Err, Option, Result, sym, refl, ap, subst}
+use Rattle.std.specs.List.{AllByRecursion}
 use Rattle.std.specs.Result.{result_ok}
 use Rattle.std.proofs.ByRecursion.{All-weaker}
 use Rattle.device.specs.Medium.{Medium, zeros}
 use Rattle.device.specs.Calls.{Keeps}
 use Rattle.device.specs.History.{History}
-use Rattle.device.specs.Looking.{Looks}
+use Rattle.device.specs.Looking.{IsRead, Looks}
 use Rattle.device.specs.declared.fault.DeviceFault.TheVariants.{Off}
 use Rattle.device.proofs.Looking.{looks_none, reads_keep, same_pages}
 use Rattle.cuts.specs.Nodes.{Pair}
@@ -19,10 +20,11 @@ use Rattle.paged.specs.Sound.{Inside}
 use Rattle.paged.proofs.Accepted.{none_of}
 use Rattle.search.specs.Finding.{Answers, Standing, Finds, Searches, PlaceOf}
 use Rattle.search.specs.declared.Place.{Place}
+use Rattle.store.specs.Acting.{CallsIf}
 use Rattle.store.specs.Model.{looked, reads}
 use Rattle.store.specs.Reading.{version_of, Hands, HandsIfSound, shut_if_off}
 use Rattle.store.specs.Snapshots.{snap}
-use Rattle.store.specs.States.{version_in}
+use Rattle.store.specs.States.{version_in, can_read}
 use Rattle.store.specs.Versions.{height_of, tree_of, pages_held, pairs_held, Stands, Sound, model_of}
 use Rattle.store.specs.declared.state.State.{State}
 use Rattle.store.specs.declared.state.State.TheVariants.{Shut, Idle, InTransaction}
@@ -122,29 +124,48 @@ module _ (m : Medium) (s : State) (b : Held) (want : List Pair → Option Pair) 
         }
 
 -- through the reads of the search
-pub looks_keep : {P : History → Type 0} {m : Medium} {Q : History → Type 0} {n : Medium} (F G : History → Type 0) → Looks P m Q n F → ((t : History) → Keeps m n → F t → G t) → Looks P m Q n G
+pub looks_keep : {P : History → Type 0} {m : Medium} {Q : History → Type 0} {n : Medium} (F G : History → Type 0) → Looks P m Q n F → ((t : History) → AllByRecursion IsRead t → Keeps m n → F t → G t) → Looks P m Q n G
 looks_keep {P} {m} {Q} {n} F G l f = record {
-  follows = λ h p. let a = l.follows h p in (a.0, a.1, a.2, a.3, f a.0 (reads_keep m a.0 n a.2 a.3) a.4);
+  follows = λ h p. let a = l.follows h p in (a.0, a.1, a.2, a.3, f a.0 a.3 (reads_keep m a.0 n a.2 a.3) a.4);
 }
+
+-- a read that is refused for the state or for its key makes no call, and one that is not may read
+none_shut : (s : State) (fits : Bool) (f : StoreFault) → Err f ≡ version_in s → can_read s fits ≡ false
+none_shut Shut fits f e = refl
+none_shut (Idle x) fits f e = cc
+none_shut (InTransaction x) fits f e = cc
+
+none_short : (s : State) (fits : Bool) → fits ≡ false → can_read s fits ≡ false
+none_short Shut fits e = refl
+none_short (Idle x) fits e = e
+none_short (InTransaction x) fits e = e
+
+by_none : (b : Bool) → b ≡ false → CallsIf b [] (AllByRecursion IsRead [])
+by_none b e = subst (λ v. CallsIf v [] (AllByRecursion IsRead [])) (sym e) refl
+
+by_reads : (s : State) (x : Meta) (t : History) → Ok x ≡ version_in s → AllByRecursion IsRead t → CallsIf (can_read s true) t (AllByRecursion IsRead t)
+by_reads Shut x t e r = cc
+by_reads (Idle y) x t e r = r
+by_reads (InTransaction y) x t e r = r
 
 -- the whole of a read, by its way out
 module _ (P : History → Type 0) (m : Medium) (s : State) (b : Held) (want : List Pair → Option Pair) where
   abbrev pub Reading : (fits : Bool) (Q : History → Type 0) (n : Medium) (z : State) (a : Result ℕ StoreFault) (buffer : List ℕ) → Type 0
-  Reading fits Q n z a buffer = Looks P m Q n (λ _. HandsIfSound (snap m s b) (snap n z b) fits want a buffer)
+  Reading fits Q n z a buffer = Looks P m Q n (λ t. CallsIf (can_read s fits) t (AllByRecursion IsRead t) × HandsIfSound (snap m s b) (snap n z b) fits want a buffer)
 
   pub at_shut : (fits : Bool) (f : StoreFault) → Err f ≡ version_in s → Reading fits P m s (Err f) zeros
-  at_shut fits f e = looks_none _ (λ _ _ h. shut_refused m s b want f m.on fits e h)
+  at_shut fits f e = looks_none _ (λ _ _. (by_none _ (none_shut s fits f e), λ h. shut_refused m s b want f m.on fits e h))
 
   pub at_length : (fits : Bool) (x : Meta) → Ok x ≡ version_in s → fits ≡ false → Reading fits P m s (Err KeyLength) zeros
-  at_length fits x e f = looks_none _ (λ _ _ h. length_refused m s b want x m.on fits (version_is s x e) f h)
+  at_length fits x e f = looks_none _ (λ _ _. (by_none _ (none_short s fits f), λ h. length_refused m s b want x m.on fits (version_is s x e) f h))
 
   module _ (Q : History → Type 0) (n : Medium) (x : Meta) (height : ℕ) (r : Result (Option Place) PageFault) (z : State) (e : Ok x ≡ version_in s) (g : height ≡ height_of x)
       (l : Searches P m Q n (record { root = x.root; height = height }) want r) (y : z ≡ shut_if_off r s) where
     pub at_fault : (q : PageFault) → r ≡ Err q → Reading true Q n z (Err (Page q)) zeros
-    at_fault q i = looks_keep _ _ l (λ _ k w h. rw y (fault_handed m s b want n x height r (version_is s x e) g k w h q i))
+    at_fault q i = looks_keep _ _ l (λ t a k w. (by_reads s x t e a, λ h. rw y (fault_handed m s b want n x height r (version_is s x e) g k w h q i)))
 
     pub at_none : r ≡ Ok None → Reading true Q n z (Err Absent) zeros
-    at_none i = looks_keep _ _ l (λ _ k w h. rw y (none_handed m s b want n x height r (version_is s x e) g k w h i))
+    at_none i = looks_keep _ _ l (λ t a k w. (by_reads s x t e a, λ h. rw y (none_handed m s b want n x height r (version_is s x e) g k w h i)))
 
     pub at_some : (place : Place) → r ≡ Ok (Some place) → Reading true Q n z (Ok place.cell) place.leaf.bytes
-    at_some place i = looks_keep _ _ l (λ _ k w h. rw y (some_handed m s b want n x height r (version_is s x e) g k w h place i))
+    at_some place i = looks_keep _ _ l (λ t a k w. (by_reads s x t e a, λ h. rw y (some_handed m s b want n x height r (version_is s x e) g k w h place i)))

@@ -8,11 +8,14 @@ use Rattle.cuts.specs.Nodes.{Pair}
 use Rattle.tree.specs.Maps.{first_above}
 use Rattle.faults.specs.declared.fault.StoreFault.{StoreFault}
 use Rattle.search.specs.Finding.{pair_with}
+use Rattle.store.specs.Acting.{CallsIf}
 use Rattle.store.specs.Calls.{ObeysIfSound, Commits}
 use Rattle.store.specs.Model.{Model, Stepped, begins, aborts}
 use Rattle.store.specs.Opening.{Opens}
 use Rattle.store.specs.Reading.{is_key, is_short, HandsIfSound}
 use Rattle.store.specs.Snapshots.{Snapshot}
+use Rattle.store.specs.States.{can_read}
+use Rattle.store.specs.Versions.{Forgotten}
 use Rattle.store.specs.declared.client.Answer.{Answer}
 use Rattle.store.specs.declared.client.Answer.TheVariants.{Number, Cell, Done}
 use Rattle.store.specs.declared.client.Call.{Call}
@@ -30,7 +33,8 @@ Steps model s z a t = (r : Result Unit StoreFault) × (a ≡ answered (λ _. Don
 
 -- a call that reads the map, where `fits` says whether the key's length does
 abbrev pub ReadsMap : (fits : Bool) → (List Pair → Option Pair) → Snapshot → Snapshot → Result Answer StoreFault → History → Type 0
-ReadsMap fits want s z a t = (r : Result ℕ StoreFault) × (buffer : List ℕ) × (a ≡ answered Cell r) × AllByRecursion IsRead t × HandsIfSound s z fits want r buffer
+ReadsMap fits want s z a t = (r : Result ℕ StoreFault) × (buffer : List ℕ) × (a ≡ answered Cell r)
+    × CallsIf (can_read s.state fits) t (AllByRecursion IsRead t) × HandsIfSound s z fits want r buffer
 
 -- One call of a client on the store s, by the calls t of the device. The store is then z, and has answered a.
 abbrev pub Does : Call → Snapshot → Snapshot → Result Answer StoreFault → History → Type 0
@@ -40,4 +44,4 @@ Does Abort s z a t = Steps aborts s z a t
 Does (Get k) s z a t = ReadsMap (is_key (vec_items k)) (pair_with (vec_items k)) s z a t
 Does (After k) s z a t = ReadsMap (is_short (vec_items k)) (first_above (vec_items k)) s z a t
 Does Commit s z a t = (r : Result ℕ StoreFault) × (a ≡ answered Number r) × Commits s z t r
-Does PowerReturn s z a t = (a ≡ Ok Done) × (z.state ≡ Shut) × Returns s.medium z.medium × (t ≡ step s.medium power_returned z.medium ∷ [])
+Does PowerReturn s z a t = (a ≡ Ok Done) × (z.state ≡ Shut) × Forgotten z.held × Returns s.medium z.medium × (t ≡ step s.medium power_returned z.medium ∷ [])

@@ -1,6 +1,7 @@
 -- A device as it is formatted.
-use Rattle.std.specs.Prelude.{◌≡◌, ℕ, true, false, [], OnOk, None, Ok, Err, Result}
+use Rattle.std.specs.Prelude.{◌≡◌, ℕ, true, false, List, [], ◌∷◌, OnOk, None, Ok, Err, Result}
 use Rattle.device.specs.Medium.{Medium, Durable, zeros}
+use Rattle.device.specs.History.{Event, did_write, did_sync, History}
 use Rattle.device.specs.declared.fault.DeviceFault.{DeviceFault}
 use Rattle.device.specs.declared.fault.DeviceFault.TheVariants.{Off}
 use Rattle.page.specs.Kinds.{leaf_rules}
@@ -8,11 +9,14 @@ use Rattle.page.specs.Reading.{first_fault}
 use Rattle.page.specs.Views.{pairs_in}
 use Rattle.meta.specs.Layout.{meta_page}
 use Rattle.meta.specs.declared.Meta.{Meta}
+use Rattle.faults.specs.Faults.{from_device}
 use Rattle.faults.specs.declared.fault.StoreFault.{StoreFault}
 use Rattle.walk.specs.Checking.{fits_pages}
+use Rattle.store.specs.Acting.{events_of, GoesBy, CallsIf}
 use Rattle.store.specs.Calls.{ObeysIfSound}
 use Rattle.store.specs.Model.{formats}
 use Rattle.store.specs.Snapshots.{Snapshot}
+use Rattle.store.specs.States.{can_restart}
 
 -- the meta of commit 0, on a device with so many pages: an empty leaf on page 2 is the tree
 abbrev pub first_meta : ℕ → Meta
@@ -28,11 +32,33 @@ pub record Fresh (m : Medium) : Type 0 where
   pub leaf : first_fault leaf_rules (m.bytes 2) ≡ None
   pub empty : pairs_in (m.bytes 2) ≡ []
 
--- what laying out a device leaves, if that has room
-abbrev pub LaysOut : Medium → Medium → Result Unit DeviceFault → Type 0
-LaysOut m n (Ok u) = fits_pages m.size ≡ true → Fresh n
-LaysOut m n (Err f) = fits_pages m.size ≡ true → (f ≡ Off) × (n.on ≡ false)
+-- The calls of a format, newest first, on a device with so many pages: blank meta pages and a leaf, and when these are
+-- durable, the meta page of commit 0.
+abbrev pub plan : (size : ℕ) (leaf : List ℕ) → List (Result Unit DeviceFault → Event)
+plan size leaf =
+    did_sync ∷ did_write 0 (meta_page (first_meta size)) ∷ did_sync ∷ did_write 2 leaf ∷ did_write 1 zeros ∷ did_write 0 zeros ∷ []
 
--- a formatting of the store's device
-abbrev pub FormatsTo : Snapshot → Snapshot → Result Unit StoreFault → Type 0
-FormatsTo s z a = OnOk a (Fresh z.medium) × ObeysIfSound s z (formats z.medium.on (fits_pages s.medium.size)) a
+-- they went by this plan, where the leaf is an empty one, and answered a
+abbrev pub WritesOut : (size : ℕ) → History → (a : Result Unit DeviceFault) → Type 0
+WritesOut size t a = (leaf : List ℕ) × (first_fault leaf_rules leaf ≡ None) × (pairs_in leaf ≡ []) × GoesBy (plan size leaf) a (events_of t)
+
+-- what laying out a device leaves, if that has room
+abbrev pub Leaves : Medium → Medium → Result Unit DeviceFault → Type 0
+Leaves m n (Ok u) = fits_pages m.size ≡ true → Fresh n
+Leaves m n (Err f) = fits_pages m.size ≡ true → (f ≡ Off) × (n.on ≡ false)
+
+-- laying it out, by the calls t
+abbrev pub LaysOut : Medium → Medium → History → Result Unit DeviceFault → Type 0
+LaysOut m n t a = WritesOut m.size t a × Leaves m n a
+
+-- the answer of a store to a format that got to the device
+abbrev pub WritesOutFor : (size : ℕ) → History → Result Unit StoreFault → Type 0
+WritesOutFor size t (Ok u) = WritesOut size t (Ok tt)
+WritesOutFor size t (Err f) = (d : DeviceFault) × (f ≡ from_device d) × WritesOut size t (Err d)
+
+-- a format of the store's device, by the calls t
+abbrev pub FormatsTo : Snapshot → Snapshot → History → Result Unit StoreFault → Type 0
+FormatsTo s z t a =
+    CallsIf (can_restart s.state s.medium.size) t (WritesOutFor s.medium.size t a)
+    × OnOk a (Fresh z.medium)
+    × ObeysIfSound s z (formats z.medium.on (fits_pages s.medium.size)) a

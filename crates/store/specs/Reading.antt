@@ -1,10 +1,10 @@
 -- What a read of the map hands out.
 use Rattle.std.specs.Prelude.{◌≡◌, ℕ, ◌<◌, Bool, ◌&&◌, List, length, Some, None, Ok, Err, Option, Result, nat_le}
-use Rattle.std.specs.List.{ContainsAt}
+use Rattle.std.specs.List.{AllByRecursion, ContainsAt}
 use Rattle.std.specs.Result.{result_ok}
 use denote.Ref.{MutBor}
 use Rattle.device.specs.Medium.{zeros}
-use Rattle.device.specs.Looking.{On, LooksOn}
+use Rattle.device.specs.Looking.{IsRead, On, LooksOn}
 use Rattle.device.specs.declared.Reader.{Ghosts}
 use Rattle.device.specs.declared.fault.DeviceFault.TheVariants.{Outside, Off}
 use Rattle.cuts.specs.Nodes.{Pair}
@@ -18,9 +18,10 @@ use Rattle.faults.specs.declared.fault.StoreFault.{StoreFault}
 use Rattle.search.specs.Finding.{pair_at, leaf_pages, Searches}
 use Rattle.search.specs.declared.Place.{Place}
 use Rattle.search.specs.declared.Tree.{Tree}
+use Rattle.store.specs.Acting.{CallsIf}
 use Rattle.store.specs.Model.{Model, Stepped, reads}
 use Rattle.store.specs.Snapshots.{Snapshot, snapshot, IsSound, model_at}
-use Rattle.store.specs.States.{version_in}
+use Rattle.store.specs.States.{version_in, can_read}
 use Rattle.store.specs.Versions.{height_of, tree_of}
 use Rattle.store.specs.declared.state.State.{State}
 use Rattle.store.specs.declared.state.State.TheVariants.{Shut}
@@ -64,10 +65,10 @@ pub record Hands (s z : Snapshot) (step : Model → Stepped Pair) (a : Result �
 abbrev pub HandsIfSound : Snapshot → Snapshot → (fits : Bool) → (List Pair → Option Pair) → Result ℕ StoreFault → List ℕ → Type 0
 HandsIfSound s z fits want a buffer = IsSound s → Hands s z (reads z.medium.on fits want) a buffer
 
--- from a store to what it becomes, by reads of its device
+-- from a store to what it becomes, by reads of its device; by none, if it is refused before them
 abbrev pub ReadsOut : {D : Type 0} → Ghosts D → Store D → Store D → (fits : Bool) → (List Pair → Option Pair) → Result ℕ StoreFault → List ℕ → Type 0
 ReadsOut r s z fits want a buffer =
-    LooksOn r s.device z.device (λ m n t. HandsIfSound (snapshot r s) (snapshot r z) fits want a buffer)
+    LooksOn r s.device z.device (λ m n t. CallsIf (can_read s.state fits) t (AllByRecursion IsRead t) × HandsIfSound (snapshot r s) (snapshot r z) fits want a buffer)
 
 -- Each call of the search, of which `post` tells, searches its tree for what is wanted.
 abbrev pub Seeks : {D : Type 0} → Ghosts D → (MutBor D → Tree → Result (Option Place) PageFault → MutBor D → Type 0) → (List Pair → Option Pair) → Type 0

@@ -8,7 +8,7 @@ use page::LeafPage;
 
 // Lays out a device: blank meta pages and an empty leaf, and when these are durable, commit 0.
 pub(crate) fn lay_out<D: Device>(device: &mut D) -> Result<(), DeviceFault>
-    ensures { ActsOn D.Reader device.old device.new (λ m n t. LaysOut m n result) }
+    ensures { ActsOn D.Reader device.old device.new (λ m n t. LaysOut m n t result) }
 {
     let first = Meta {
         pages: device.pages(),

@@ -16,7 +16,7 @@ use walk::check_room;
 impl<D: Device> Store<D> {
     // Formats the device: an empty map, as commit 0. The store is then shut.
     pub fn format(&mut self) -> Result<(), StoreFault>
-        ensures { StoreActs D.Reader self.old self.new (λ s z t. FormatsTo s z result) }
+        ensures { StoreActs D.Reader self.old self.new (λ s z t. FormatsTo s z t result) }
     {
         if let State::InTransaction(_) = self.state {
             return Err(StoreFault::InTransaction);

@@ -33,4 +33,4 @@ returns-in_err-abort-in-Abort g c =
     (steps_act g.D.Reader.past g.D.Reader.medium c.args.self.now.device c.abort.new.self.device _ Abort aborts _ _ _ _ (Err _) _ (λ v w t s. s) c.in-Abort.is refl c.in_err-abort-in-Abort.ensures.device c.in_err-abort-in-Abort.ensures.model)
 
 pub returns-in-PowerReturn : goal.returns-in-PowerReturn
-returns-in-PowerReturn g c = return_acts _ _ _ _ _ _ _ _ _ _ c.in-PowerReturn.is refl c.power_return.ensures.shut c.power_return.ensures.device
+returns-in-PowerReturn g c = return_acts _ _ _ _ _ _ _ _ _ _ c.in-PowerReturn.is refl c.power_return.ensures.shut c.power_return.ensures.forgotten c.power_return.ensures.device
