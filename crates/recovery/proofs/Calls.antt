@@ -12,20 +12,12 @@ use Rattle.store.specs.Snapshots.{Snapshot, model_at}
 use Rattle.store.specs.Versions.{Sound, model_of}
 use Rattle.store.specs.declared.client.Answer.{Answer}
 use Rattle.store.specs.declared.client.Answer.TheVariants.{Done}
-use Rattle.store.specs.declared.client.Call.{Call}
 use Rattle.store.specs.declared.client.Call.TheVariants.{PowerReturn}
 use Rattle.recovery.specs.Premise.{Premise}
-use Rattle.recovery.specs.Promise.{Claim}
-use Rattle.recovery.specs.Record.{Record, no_working, unless_off, recorded}
+use Rattle.recovery.specs.Record.{Record, no_working, unless_off}
 use Rattle.recovery.proofs.Safe.{other, return_safe}
 use Rattle.recovery.proofs.Tracks.{Agrees, Tracks, Alike, alike_safe, IsQuiet, reads_quiet, quieted}
 use Rattle.recovery.proofs.Models.{alike_no_working, alike_unless, reads_agrees}
-
--- One call of the client, by the calls t of the device, with its answer: where the record was that of the store before it,
--- it is after it, and the answer is as promised.
-abbrev pub Goes : Call → Snapshot → Snapshot → Result Answer StoreFault → History → Type 0
-Goes c s z a t = (base : Medium) (h : History) (k : Record) → Premise base (t ++ h) → Tracks base h k s
-    → Tracks base (t ++ h) (recorded k c a) z × Claim k c a z.medium
 
 module _ (s z : Snapshot) (a : Result Answer StoreFault) (t : History) (l : Leads s.medium t z.medium) (base : Medium) (h : History) (k : Record) (i : Tracks base h k s) where
   -- a step of the model, with no call of the device

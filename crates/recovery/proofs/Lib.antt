@@ -7,3 +7,4 @@ pub mod Commits
 pub mod EachCall
 pub mod Starts
 pub mod Runs
+pub mod Scripts

@@ -26,9 +26,8 @@ use Rattle.store.specs.Snapshots.{Snapshot, IsSound, model_at}
 use Rattle.store.specs.Versions.{height_of, tree_of, pairs_held, Sound}
 use Rattle.store.specs.declared.client.Answer.{Answer}
 use Rattle.store.specs.declared.client.Answer.TheVariants.{Number}
-use Rattle.store.specs.declared.client.Call.TheVariants.{Open}
 use Rattle.store.proofs.Found.{read_tells}
-use Rattle.recovery.specs.Promise.{Finds, OpensWell, Outside, Claim}
+use Rattle.recovery.specs.Promise.{Finds, OpensOrIsOff, Unless}
 use Rattle.recovery.specs.Record.{Record, record_of, no_working, no_doubt, opened_by}
 use Rattle.recovery.proofs.Safe.{Whole, Doubt, Safe, mine, other, Newest, itself, doubtful, newest_of, mild_before}
 use Rattle.recovery.proofs.Tracks.{Agrees, Tracks, settled_safe, IsQuiet, opening_quiet, quiet_keeps, quiet_on, quiet_calls, quieted}
@@ -84,11 +83,11 @@ module _ (base : Medium) (h : History) (k : Record) (s z : Snapshot) (t : Histor
   durable on = keeps.stays_durable (other x) (i.settled (quiet_on s.medium t here l q on))
 
   abbrev Opened : Result ℕ StoreFault → Type 0
-  Opened r = Tracks base (t ++ h) (opened_by k (answered Number r)) z × Claim k Open (answered Number r) here
+  Opened r = Tracks base (t ++ h) (opened_by k (answered Number r)) z × Unless k.working (OpensOrIsOff k (answered Number r) here)
 
   -- as the claim has it, since there is no working map
-  claimed : (a : Result Answer StoreFault) → (here.on ≡ true → OpensWell k a here) × (here.on ≡ false → a ≡ Err off) → Claim k Open a here
-  claimed a c = subst (λ w. Outside w ((here.on ≡ true → OpensWell k a here) × (here.on ≡ false → a ≡ Err off))) (sym none) c
+  claimed : (a : Result Answer StoreFault) → OpensOrIsOff k a here → Unless k.working (OpensOrIsOff k a here)
+  claimed a c = subst (λ w. Unless w (OpensOrIsOff k a here)) (sym none) c
 
   refused : here.on ≡ false → model_at z ≡ shut → Opened (Err off)
   refused on m = (
@@ -162,18 +161,18 @@ module _ (base : Medium) (h : History) (k : Record) (s z : Snapshot) (t : Histor
           let f : map_on s.medium here.on ≡ Err off = rw (e, room) refl in
           subst OpenedAs (sym f) (refused e)
 
-ready : (m : Medium) (s : State) (b : Held) → Sound m s b → Ready m s b
+pub ready : (m : Medium) (s : State) (b : Held) → Sound m s b → Ready m s b
 ready m Shut b i = tt
 ready m (Idle x) b i = tt
 ready m (InTransaction x) b i = i
 
 -- in a transaction nothing is claimed
-claimed_within : (k : Record) (a : Result Answer StoreFault) (n : Medium) (w : List Pair) → k.working ≡ Some w → Claim k Open a n
-claimed_within k a n w e = subst (λ o. Outside o ((n.on ≡ true → OpensWell k a n) × (n.on ≡ false → a ≡ Err off))) (sym e) tt
+claimed_within : (k : Record) (a : Result Answer StoreFault) (n : Medium) (w : List Pair) → k.working ≡ Some w → Unless k.working (OpensOrIsOff k a n)
+claimed_within k a n w e = subst (λ o. Unless o (OpensOrIsOff k a n)) (sym e) tt
 
 module _ (s z : Snapshot) (t : History) (l : Leads s.medium t z.medium) (base : Medium) (h : History) (k : Record) (i : Tracks base h k s) where
   abbrev Goes-on : Result Answer StoreFault → Type 0
-  Goes-on a = Tracks base (t ++ h) (opened_by k a) z × Claim k Open a z.medium
+  Goes-on a = Tracks base (t ++ h) (opened_by k a) z × Unless k.working (OpensOrIsOff k a z.medium)
 
   abbrev step : Model → Stepped ℕ
   step m = opens (map_on s.medium z.medium.on) m

@@ -2,4 +2,3 @@ pub mod Record
 pub mod Premise
 pub mod Promise
 pub mod Runs
-pub mod Words

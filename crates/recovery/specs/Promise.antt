@@ -1,5 +1,5 @@
 -- The promise on power loss, over whole runs of calls.
-use Rattle.std.specs.Prelude.{◌≡◌, ℕ, ◌+◌, ◌-◌, ◌≤◌, true, false, ◌⊎◌, List, [], ◌∷◌, ◌++◌, is_some, Some, None, Ok, Err, Option, Result}
+use Rattle.std.specs.Prelude.{◌≡◌, ℕ, ◌+◌, ◌-◌, ◌≤◌, Bool, true, false, cond, ◌⊎◌, List, [], ◌∷◌, ◌++◌, is_some, is_ok, Some, None, Ok, Err, Option, Result}
 use Rattle.std.specs.List.{AllByRecursion}
 use Rattle.device.specs.Medium.{Medium}
 use Rattle.device.specs.History.{History, Leads}
@@ -10,15 +10,15 @@ use Rattle.paged.specs.Paged.{pairs_on}
 use Rattle.walk.specs.Checking.{Holding, found_on}
 use Rattle.store.specs.Acting.{IsAllowed}
 use Rattle.store.specs.Client.{Does}
-use Rattle.store.specs.Formatting.{Fresh}
 use Rattle.store.specs.Model.{off}
 use Rattle.store.specs.Snapshots.{Snapshot}
+use Rattle.store.specs.Versions.{Forgotten}
 use Rattle.store.specs.declared.client.Answer.{Answer}
 use Rattle.store.specs.declared.client.Answer.TheVariants.{Number}
 use Rattle.store.specs.declared.client.Call.{Call}
-use Rattle.store.specs.declared.client.Call.TheVariants.{Open, Begin, Get, After, Abort, Commit, PowerReturn}
+use Rattle.store.specs.declared.client.Call.TheVariants.{Format, Open, Begin, Get, After, Abort, Commit, PowerReturn}
 use Rattle.store.specs.declared.state.State.TheVariants.{Shut}
-use Rattle.recovery.specs.Record.{Record, fresh, recorded}
+use Rattle.recovery.specs.Record.{Record, opened_by, recorded}
 
 -- what an opening found on the medium: commit c, with exactly these pairs, in rising order, in a tree whose leaves lie
 -- equally deep (as those of every PagedTree do) and which has at most seven levels
@@ -36,38 +36,65 @@ abbrev pub OpensWell : Record → Result Answer StoreFault → Medium → Type 0
 OpensWell k a n = (c : ℕ)
     × (a ≡ Ok (Number c))
     × ((c ≡ k.number) ⊎ ((c ≡ k.number + 1) × (is_some k.in_doubt ≡ true)))
-    × Finds n c (recorded k Open a).committed
+    × Finds n c (opened_by k a).committed
 
-abbrev pub Outside : Option (List Pair) → Type 0 → Type 0
-Outside None P = P
-Outside (Some w) P = Unit {0}
+-- an opening goes well, unless its device is off, and then it says so
+abbrev pub OpensOrIsOff : Record → Result Answer StoreFault → Medium → Type 0
+OpensOrIsOff k a n = (n.on ≡ true → OpensWell k a n) × (n.on ≡ false → a ≡ Err off)
 
--- What is promised of a call that answered a, where k was the record before it, and n the medium after it: an opening goes
--- well, unless its device is off, and then it says so.
-abbrev pub Claim : Record → Call → Result Answer StoreFault → Medium → Type 0
-Claim k Open a n = Outside k.working ((n.on ≡ true → OpensWell k a n) × (n.on ≡ false → a ≡ Err off))
-Claim k Begin a n = Unit {0}
-Claim k (Get key) a n = Unit {0}
-Claim k (After key) a n = Unit {0}
-Claim k Abort a n = Unit {0}
-Claim k Commit a n = Unit {0}
-Claim k PowerReturn a n = Unit {0}
+abbrev pub Unless : {X : Type 0} → Option X → Type 0 → Type 0
+Unless None P = P
+Unless (Some x) P = Unit {0}
+
+-- What is promised of a call that answered a, where k was the record before it, and n the medium after it: an opening outside
+-- a transaction goes well.
+abbrev pub Claim : Option Record → Call → Result Answer StoreFault → Medium → Type 0
+Claim None c a n = Unit {0}
+Claim (Some k) Format a n = Unit {0}
+Claim (Some k) Open a n = Unless k.working (OpensOrIsOff k a n)
+Claim (Some k) Begin a n = Unit {0}
+Claim (Some k) (Get key) a n = Unit {0}
+Claim (Some k) (After key) a n = Unit {0}
+Claim (Some k) Abort a n = Unit {0}
+Claim (Some k) Commit a n = Unit {0}
+Claim (Some k) PowerReturn a n = Unit {0}
 
 -- the device's calls in one call of the client, and the store after them
 pub record Segment : Type 0 where
   pub calls : History
   pub after : Snapshot
 
--- Of each call in turn: where what is asked of the device's calls up to its end holds of them, it answered as promised.
--- The calls h came before these, and k was the record then.
-abbrev pub Claims : (asked : History → Type 0) → (h : History) → Record → List Call → List (Result Answer StoreFault) → List Segment → Type 0
-Claims asked h k [] [] [] = Unit {0}
-Claims asked h k [] [] (s ∷ ss) = ⊥
-Claims asked h k [] (a ∷ bs) ss = ⊥
-Claims asked h k (c ∷ cs) [] ss = ⊥
-Claims asked h k (c ∷ cs) (a ∷ bs) [] = ⊥
-Claims asked h k (c ∷ cs) (a ∷ bs) (s ∷ ss) =
-    (asked (s.calls ++ h) → Claim k c a s.after.medium) × Claims asked (s.calls ++ h) (recorded k c a) cs bs ss
+-- the device's calls since the last accepted format, and the medium that this left
+pub record Since : Type 0 where
+  pub base : Medium
+  pub calls : History
+
+abbrev pub since : Medium → History → Since
+since b h = record { base = b; calls = h }
+
+abbrev pub is_formatted : Call → Result Answer StoreFault → Bool
+is_formatted Format a = is_ok a
+is_formatted Open a = false
+is_formatted Begin a = false
+is_formatted (Get key) a = false
+is_formatted (After key) a = false
+is_formatted Abort a = false
+is_formatted Commit a = false
+is_formatted PowerReturn a = false
+
+abbrev pub on_by : Call → Result Answer StoreFault → Segment → Since → Since
+on_by c a s w = cond (is_formatted c a) (since s.after.medium []) (since w.base (s.calls ++ w.calls))
+
+-- Of each call in turn: where what is asked of the device's calls since the last format, up to its end, holds of them, it
+-- answered as promised. The calls w came before these, and k was the record then.
+abbrev pub Claims : (asked : Medium → History → Type 0) → (w : Since) → Option Record → List Call → List (Result Answer StoreFault) → List Segment → Type 0
+Claims asked w k [] [] [] = Unit {0}
+Claims asked w k [] [] (s ∷ ss) = ⊥
+Claims asked w k [] (a ∷ bs) ss = ⊥
+Claims asked w k (c ∷ cs) [] ss = ⊥
+Claims asked w k (c ∷ cs) (a ∷ bs) [] = ⊥
+Claims asked w k (c ∷ cs) (a ∷ bs) (s ∷ ss) =
+    (asked w.base (s.calls ++ w.calls) → Claim k c a s.after.medium) × Claims asked (on_by c a s w) (recorded k c a) cs bs ss
 
 -- the calls one after another: each did what the store promises of it and answered so, by the device's calls of its segment,
 -- which are such as the rules of a device allow; the store was s, and is z
@@ -85,11 +112,16 @@ abbrev pub calls_of : List Segment → History
 calls_of [] = []
 calls_of (s ∷ ss) = calls_of ss ++ s.calls
 
--- Whichever history led to the device, the calls that formatted it, which left a store s that is shut, and then those of each
--- call of the script lead on from there, up to the store z; and each answer is as promised, if what is asked of the calls on the
--- formatted device holds of those up to it.
+-- a new store over the medium m
+pub record New (m : Medium) (s : Snapshot) : Type 0 where
+  pub medium : s.medium ≡ m
+  pub shut : s.state ≡ Shut
+  pub forgotten : Forgotten s.held
+
+-- Whichever history led to the device, the calls of each call of the script lead on from there, from a new store up to the
+-- store z, and each answer is as promised, if what is asked of the device's calls holds of those up to it. Before the script
+-- nothing is known.
 abbrev pub Keeps : (asked : Medium → History → Type 0) → (P : History → Type 0) → Medium → (Q : History → Type 0) → (z : Snapshot) → List Call → List (Result Answer StoreFault) → Type 0
 Keeps asked P m Q z script answers = (h : History) → P h
-    → (t : History) × (s : Snapshot) × (gs : List Segment)
-    × Q (calls_of gs ++ (t ++ h)) × Leads m t s.medium × AllByRecursion IsAllowed t × Fresh s.medium × (s.state ≡ Shut)
-    × Passes s script answers gs z × Claims (asked s.medium) [] fresh script answers gs
+    → (s : Snapshot) × (gs : List Segment)
+    × Q (calls_of gs ++ h) × New m s × Passes s script answers gs z × Claims asked (since m []) None script answers gs

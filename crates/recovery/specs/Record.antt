@@ -1,12 +1,14 @@
--- The client's record: what a client knows of its store, from its own calls and their answers alone.
+-- The client's record: what a client knows of its store, from its own calls and their answers alone. It knows nothing before
+-- a format is accepted.
 use Rattle.std.specs.Prelude.{ℕ, ◌+◌, Bool, false, cond, List, [], Some, None, Ok, Err, Option, Result, ◌==◌}
+use Rattle.std.specs.Option.{option_map}
 use Rattle.cuts.specs.Nodes.{Pair}
 use Rattle.faults.specs.Numbers.{number as fault_number}
 use Rattle.faults.specs.declared.fault.StoreFault.{StoreFault}
 use Rattle.store.specs.declared.client.Answer.{Answer}
 use Rattle.store.specs.declared.client.Answer.TheVariants.{Number, Cell, Done}
 use Rattle.store.specs.declared.client.Call.{Call}
-use Rattle.store.specs.declared.client.Call.TheVariants.{Open, Begin, Get, After, Abort, Commit, PowerReturn}
+use Rattle.store.specs.declared.client.Call.TheVariants.{Format, Open, Begin, Get, After, Abort, Commit, PowerReturn}
 
 -- The number of the last commit that was acknowledged or found, with its map; in a transaction the working map; and after
 -- a commit that power interrupted, the map that may or may not have been committed by it.
@@ -75,12 +77,18 @@ opened_by k (Ok (Cell c)) = k
 opened_by k (Ok Done) = k
 opened_by k (Err f) = unless_off (Err f) k
 
+-- an accepted format begins the record anew; after one that power interrupted, nothing is known of what the device holds
+abbrev pub formatted_by : Option Record → Result Answer StoreFault → Option Record
+formatted_by k (Ok a) = Some fresh
+formatted_by k (Err f) = cond (answers_off (Err f)) None k
+
 -- the record after a call and its answer
-abbrev pub recorded : Record → Call → Result Answer StoreFault → Record
-recorded k Open a = opened_by k a
-recorded k Begin a = begun k a
-recorded k (Get key) a = unless_off a k
-recorded k (After key) a = unless_off a k
-recorded k Abort a = aborted k a
-recorded k Commit a = committed_by k a
-recorded k PowerReturn a = no_working k
+abbrev pub recorded : Option Record → Call → Result Answer StoreFault → Option Record
+recorded k Format a = formatted_by k a
+recorded k Open a = option_map (λ r. opened_by r a) k
+recorded k Begin a = option_map (λ r. begun r a) k
+recorded k (Get key) a = option_map (unless_off a) k
+recorded k (After key) a = option_map (unless_off a) k
+recorded k Abort a = option_map (λ r. aborted r a) k
+recorded k Commit a = option_map (λ r. committed_by r a) k
+recorded k PowerReturn a = option_map no_working k

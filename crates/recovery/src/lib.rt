@@ -1,9 +1,8 @@
 // The promise on power loss: whatever power does, an opening finds the last commit that was acknowledged, or the one that
-// power interrupted, whole. It is the contract of `run`, which runs any calls of a client on a new store over any device.
+// power interrupted, whole, if no power return made up a meta page. It is the contract of `run`, which makes any calls of a
+// client on a new store over any device.
 #![tactic(auto)]
 
-mod fault;
 mod running;
 
-pub use fault::RunFault;
-pub use running::{Outcome, run};
+pub use running::{Entry, run};

@@ -1,32 +1,34 @@
+ghost use Rattle.std.specs.Prelude.{◌≡◌, None};
 ghost use Rattle.recovery.specs.Premise.{Premise};
 ghost use Rattle.recovery.specs.Runs.{RunsTo};
 
-use crate::fault::RunFault;
 use device::PowerCycle;
 use faults::StoreFault;
-use std::alloc::Global;
 use store::{Answer, Call, Store};
 
-// A store after a run, with the answers of the calls, in their order.
+// An entry of a client's script: a call, with the place for its answer.
 #[derive(Drop)]
-pub struct Outcome<D> {
-    pub store: Store<D>,
-    pub answers: Vec<Result<Answer, StoreFault>>,
+pub struct Entry {
+    pub call: Call,
+    pub answer: Option<Result<Answer, StoreFault>>,
 }
 
-// Formats the device, and makes a client's calls on the new store, power returns among them.
-pub fn run<D: PowerCycle + Drop>(
-    heap: Global,
-    device: D,
-    script: &[Call],
-) -> Result<Outcome<D>, RunFault>
-    ensures { RunsTo D.Reader.past D.Reader.medium Premise (D.Reader.past device) device script.now result }
+impl Entry {
+    pub fn new(call: Call) -> Self
+        ensures call { result.call ≡ call }
+        ensures answer { result.answer ≡ None }
+    {
+        Entry { call, answer: None }
+    }
+}
+
+// Makes a client's calls on a new store, formats and power returns among them, and puts each answer beside its call.
+pub fn run<D: PowerCycle>(device: D, script: &mut [Entry]) -> Store<D>
+    ensures { RunsTo D.Reader.past D.Reader.medium Premise (D.Reader.past device) device script.old script.new result }
 {
     let mut store = Store::new(device);
-    store.format()?;
-    let mut answers = Vec::new(heap);
-    for call in script {
-        answers.push(store.act(call))?;
+    for entry in script.iter_mut() {
+        entry.answer = Some(store.act(&entry.call));
     }
-    Ok(Outcome { store, answers })
+    store
 }

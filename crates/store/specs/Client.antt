@@ -10,6 +10,7 @@ use Rattle.faults.specs.declared.fault.StoreFault.{StoreFault}
 use Rattle.search.specs.Finding.{pair_with}
 use Rattle.store.specs.Acting.{CallsIf}
 use Rattle.store.specs.Calls.{ObeysIfSound, Commits}
+use Rattle.store.specs.Formatting.{FormatsTo}
 use Rattle.store.specs.Model.{Model, Stepped, begins, aborts}
 use Rattle.store.specs.Opening.{Opens}
 use Rattle.store.specs.Reading.{is_key, is_short, HandsIfSound}
@@ -19,7 +20,7 @@ use Rattle.store.specs.Versions.{Forgotten}
 use Rattle.store.specs.declared.client.Answer.{Answer}
 use Rattle.store.specs.declared.client.Answer.TheVariants.{Number, Cell, Done}
 use Rattle.store.specs.declared.client.Call.{Call}
-use Rattle.store.specs.declared.client.Call.TheVariants.{Open, Begin, Get, After, Abort, Commit, PowerReturn}
+use Rattle.store.specs.declared.client.Call.TheVariants.{Format, Open, Begin, Get, After, Abort, Commit, PowerReturn}
 use Rattle.store.specs.declared.state.State.TheVariants.{Shut}
 
 -- a result as the client's, where f makes an answer of what was accepted
@@ -38,6 +39,7 @@ ReadsMap fits want s z a t = (r : Result ℕ StoreFault) × (buffer : List ℕ) 
 
 -- One call of a client on the store s, by the calls t of the device. The store is then z, and has answered a.
 abbrev pub Does : Call → Snapshot → Snapshot → Result Answer StoreFault → History → Type 0
+Does Format s z a t = (r : Result Unit StoreFault) × (a ≡ answered (λ _. Done) r) × FormatsTo s z t r
 Does Open s z a t = (r : Result ℕ StoreFault) × (a ≡ answered Number r) × Opens s z t r
 Does Begin s z a t = Steps begins s z a t
 Does Abort s z a t = Steps aborts s z a t

@@ -1,6 +1,7 @@
 // A call that a client makes, or a power return.
 #[derive(Drop)]
 pub enum Call {
+    Format,
     Open,
     Begin,
     Get(Vec<u8>),

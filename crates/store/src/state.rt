@@ -48,7 +48,7 @@ impl State {
 }
 
 // Marks on the pages of the committed and of the working tree: what they hold is not free. They stand beside the state,
-// and not in it: a state is copied where a call matches it, and marks are a kilobyte each.
+// and not in it: what a state holds is copied where a call matches it, and marks are a kilobyte each.
 #[derive(Clone, Copy)]
 pub struct Held {
     pub committed: Marks,

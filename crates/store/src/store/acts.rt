@@ -8,11 +8,15 @@ use device::{PAGE_SIZE, PowerCycle};
 use faults::StoreFault;
 
 impl<D: PowerCycle> Store<D> {
-    // Makes a call, whichever it is, for a client that has a ticket at hand whenever it needs one.
+    // Makes a call that is data, as in a script. It needs no ticket and hands out none: that of a begin is taken back at once.
     pub fn act(&mut self, call: &Call) -> Result<Answer, StoreFault>
         ensures { StoreActs D.Reader self.old self.new (λ s z t. Does call.now s z result t) }
     {
         match call {
+            Call::Format => {
+                self.format()?;
+                Ok(Answer::Done)
+            }
             Call::Open => self.open().map(Answer::Number),
             Call::Begin => {
                 self.begin()?.take_back();

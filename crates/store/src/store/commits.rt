@@ -9,8 +9,8 @@ use device::Device;
 use faults::StoreFault;
 
 impl<D: Device> Store<D> {
-    // Makes the working map the committed one, and answers the number of that commit. When it answers, the commit is
-    // durable. If power fails, the store is shut, and the next opening finds this commit or the one before it.
+    // Makes the working map the committed one, and answers the number of that commit, which is durable then. If power
+    // fails, the store is shut; docs/POWER.md says what the next opening finds.
     pub fn commit(&mut self, ticket: Ticket) -> Result<u64, StoreFault>
         ensures { StoreActs D.Reader self.old self.new (λ s z t. Commits s z t result) }
     {

@@ -1,4 +1,4 @@
-// Begin and abort, which do not call the device.
+// Making a store and giving it up, begin and abort: none of them calls the device.
 ghost use Rattle.std.specs.Prelude.{◌≡◌};
 ghost use Rattle.store.specs.Calls.{ObeysIfSound, granted};
 ghost use Rattle.store.specs.Model.{begins, aborts};

@@ -10,7 +10,7 @@ use Rattle.store.proofs.store.Store.act.Goals as goal
 
 pub returns-in_err-begin-in-Begin : goal.returns-in_err-begin-in-Begin
 returns-in_err-begin-in-Begin g c =
-    let q = err_from_is_err_and c.from_residual.result c.from_residual.ensures.1 in
+    let q = err_from_is_err_and c.from_residual-in_err-begin-in-Begin.result c.from_residual-in_err-begin-in-Begin.ensures.1 in
     rw (q.1, q.2)
     (steps_act g.D.Reader.past g.D.Reader.medium c.args.self.now.device c.begin.new.self.device _ Begin begins _ _ _ _ (Err _) _ (λ v w t s. s) c.in-Begin.is refl c.in_err-begin-in-Begin.ensures.device c.in_err-begin-in-Begin.ensures.model)
 
