@@ -2,11 +2,11 @@
 // back, on a disk that loses what was not synced, and on one that loses nothing, beside what a client has to expect.
 #![tactic(auto)]
 
-use anyhow::bail;
+use anyhow::{Context, bail};
 use device::Device;
 use disks::{AtOnce, AtSync, Disk, Stored, WriteBehind};
 use faults::StoreFault;
-use recovery::Outcome;
+use recovery::Entry;
 use store::{Answer, Call, Store};
 use trials::run_on_disk;
 
@@ -29,6 +29,10 @@ struct Seen {
     found: u64,
 }
 
+fn answer_of(entry: &Entry) -> anyhow::Result<Result<Answer, StoreFault>> {
+    entry.answer.context("a call without an answer")
+}
+
 fn number(answer: Answer) -> anyhow::Result<u64> {
     match answer {
         Answer::Number(number) => Ok(number),
@@ -38,26 +42,25 @@ fn number(answer: Answer) -> anyhow::Result<u64> {
 
 fn see<S: Stored>(rt: &HostRuntime, limit: u64) -> anyhow::Result<Seen> {
     let disk: Disk<S> = Disk::new(rt.alloc(), PAGES, limit)?;
-    let script = [
-        Call::Open,
-        Call::Begin,
-        Call::Commit,
-        Call::Begin,
-        Call::Commit,
-        Call::PowerReturn,
-        Call::Open,
+    let mut script = [
+        Entry::new(Call::Format),
+        Entry::new(Call::Open),
+        Entry::new(Call::Begin),
+        Entry::new(Call::Commit),
+        Entry::new(Call::Begin),
+        Entry::new(Call::Commit),
+        Entry::new(Call::PowerReturn),
+        Entry::new(Call::Open),
     ];
-    let Outcome { store: _, answers } = run_on_disk(rt.alloc(), disk, &script)?;
-    let [_, _, first, _, second, _, opening] = answers.as_slice() else {
-        bail!("not an answer for each call");
-    };
+    run_on_disk(disk, &mut script);
+    let [_, _, _, first, _, second, _, opening] = &script;
     Ok(Seen {
-        first: number((*first)?)?,
-        second: match *second {
+        first: number(answer_of(first)??)?,
+        second: match answer_of(second)? {
             Ok(answer) => Ok(number(answer)?),
             Err(fault) => Err(fault),
         },
-        found: number((*opening)?)?,
+        found: number(answer_of(opening)??)?,
     })
 }
 
