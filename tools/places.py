@@ -4,7 +4,8 @@
     python3 tools/places.py            the counts
     python3 tools/places.py --list     each place, too
 
-A row is a place to look at, and no verdict. Point 8 is about proofs/, and has no row here.
+A row is a place to look at, and no verdict. Point 8 is about proofs/, and has no row here. Three rows leave out the tests and
+programs that stood when that page's counts were taken; later ones, such as commits, card, storing and readings, they count.
 """
 import difflib
 import glob

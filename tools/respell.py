@@ -8,8 +8,8 @@ comments, in src/ in clauses, ghost blocks and `ghost use` lines, in a must-fail
 README.md and docs/ in code spans. In comments a name turns that has a capital letter inside, or stands in a code span.
 A label that Rattle makes stays: a name behind `goal.`, and in a function's own proof files each name behind a dot that
 is no field of a record of ours.
-A row with a third column, `text`, is for edits and documents alone: port.py has turned that name everywhere else.
-Run this script once, right after port.py.
+A row with a third column, `text`, is for edits and documents alone: the toolchain's own script, its port.py, has turned that
+name everywhere else. Run this script once, right after that one.
 """
 
 import os
