@@ -15,7 +15,7 @@ use Rattle.survey.specs.declared.parents.Parents.{Parents}
 
 -- a device that holds a tree has room, and was on
 module _ {T : Type 0} (r : Result T StoreFault) (h : T) where
-  has_room : (fits on : Bool) → cond fits (powered on r) (Err PageCount) ≡ Ok h → fits ≡ true
+  pub has_room : (fits on : Bool) → cond fits (powered on r) (Err PageCount) ≡ Ok h → fits ≡ true
   has_room true on e = refl
   has_room false on e = let z : ◌≡◌ {A = ℕ} 0 1 = cc in let bad : ⊥ = omega arith in absurd bad
 

@@ -1,6 +1,7 @@
 -- The pages that name a page as their child are its parents in the tree that lies there.
 use Rattle.std.proofs.Common.{◌≡◌, ℕ, zero, suc, Bool, true, false, cond, not, ◌&&◌, ◌||◌, eqb, List, [], ◌∷◌, ◌++◌, map, get_or, Some, None, Option, sym, refl, ap, ◌∙◌, arith}
 use Rattle.std.specs.List.{flat_map, list_any, AllByRecursion}
+use Rattle.std.proofs.lemmas.Bool.{and_parts}
 use Rattle.std.proofs.lemmas.Bool.Decides.{nat_tests}
 use Rattle.std.proofs.lemmas.Option.{none-some}
 use Rattle.checksum.specs.Sealed.{is_sealed}
@@ -47,7 +48,7 @@ children_map {X = X} f b = ap (λ ys. f b.first ∷ ys) (rest b.rest)
     rest [] = refl
     rest (c ∷ cs) = ap (λ ys. f c.child ∷ ys) (rest cs)
 
-elem_append : (p : ℕ) (xs ys : List ℕ) → elem p (xs ++ ys) ≡ (elem p xs || elem p ys)
+pub elem_append : (p : ℕ) (xs ys : List ℕ) → elem p (xs ++ ys) ≡ (elem p xs || elem p ys)
 unfolding elem
 elem_append p [] ys = refl
 elem_append p (x ∷ xs) ys = let ih = elem_append p xs ys in grind (arith, nat_tests)
@@ -109,6 +110,9 @@ module _ (m : ℕ → List ℕ) (q p : ℕ) where
   edges : (n : ℕ) (t : PagedTree n) → Lies m n t → (elem q (pages_of n t) && edge) ≡ is_parent n t q p
   edges zero t l = at_leaf t l
   edges (suc n) t l = at_branch n t l (under (Lies m n) (pages_of n) (λ c. is_parent n c q p) (edges n) (children t.node) l.2)
+
+pub parent_has_page : (m : ℕ → List ℕ) (n : ℕ) (t : PagedTree n) → Lies m n t → (q p : ℕ) → is_parent n t q p ≡ true → elem q (pages_of n t) ≡ true
+parent_has_page m n t l q p h = (and_parts (elem q (pages_of n t)) (edge m q p) (edges m q p n t l ∙ h)).0
 
 pub parents_are_the_trees_lem : ParentsAreTheTrees
 unfolding names edge

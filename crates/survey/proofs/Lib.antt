@@ -5,3 +5,5 @@ pub mod Adopting
 pub mod Naming
 pub mod Finding
 pub mod InTrees
+pub mod OneParent
+pub mod Standing
