@@ -34,7 +34,7 @@ fn new_card(file: &str, pages: u32, replaces: bool) -> NewCard<'_> {
     }
 }
 
-// By tools/make_images.py, which knows of a card no more than docs/FORMAT.md says, and by zlib.
+// From docs/FORMAT.md alone: `python3 tools/make_images.py --new PAGES` prints the CRC-32, by zlib, of such an image.
 const IMAGES: [(u32, u32); 3] = [(16, 0xef67276a), (17, 0x4070eea4), (1024, 0x3a3cc87f)];
 
 #[test]
