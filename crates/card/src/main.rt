@@ -18,7 +18,7 @@ use status::Status;
 use words::Task;
 
 fn answer(rt: &HostRuntime, matches: &ArgMatches<'_>) -> anyhow::Result<Status> {
-    match words::asked(matches).context("no command was given")? {
+    match words::asked(matches).context("the arguments ask for no task")? {
         Task::Check(files) => checking::check(rt, files),
         Task::Pages(file) => pages::show(rt, file),
         Task::Format(card) => formatting::format(rt, &card),
@@ -31,7 +31,7 @@ fn run(rt: &HostRuntime) -> anyhow::Result<Status> {
         Ok(matches) => answer(rt, &matches),
         Err(error) => {
             error.print(rt)?;
-            Ok(Status::of_words(&error))
+            Ok(Status::of_arguments(&error))
         }
     }
 }

@@ -14,7 +14,7 @@ pub enum Status {
 
 impl Status {
     // Of arguments that make no task: those that ask for help are answered, and others are wrong.
-    pub fn of_words(error: &Error) -> Status {
+    pub fn of_arguments(error: &Error) -> Status {
         if error.use_stderr() {
             Status::Trouble
         } else {

@@ -1,2 +1,3 @@
 mod new_cards;
 mod rows;
+mod words;
