@@ -1,3 +1,6 @@
+mod folder;
 mod new_cards;
+mod refusing;
 mod rows;
+mod saving;
 mod words;
