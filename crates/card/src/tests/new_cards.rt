@@ -1,5 +1,5 @@
 // The images that `card format` makes.
-use crate::formatting::{format, formatted};
+use crate::formatting::{format, new_image};
 use crate::status::Status;
 use crate::tests::folder::{clear, names};
 use crate::words::NewCard;
@@ -23,7 +23,7 @@ const IMAGES: [(u32, u32); 3] = [(16, 0xef67276a), (17, 0x4070eea4), (1024, 0x3a
 #[test]
 fn bytes_of_new_cards(rt: HostRuntime) -> Result<(), Fail> {
     for (pages, sum) in IMAGES {
-        let bytes = formatted(rt.alloc(), pages)?;
+        let bytes = new_image(rt.alloc(), pages)?;
         assert_eq!(rt; bytes.len(), pages as usize * 512);
         assert_eq!(rt; crc32(&bytes), sum);
     }
