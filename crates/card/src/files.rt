@@ -1,32 +1,18 @@
 // The files that hold images.
+use crate::failure::Failure;
 use anyhow::{Context, bail};
 use disks::Image;
 use std::fs::{self, File, Files, OpenFile, Permissions};
 use std::io::{self, ErrorKind, Write};
 use std::path::Path;
 
-// What came of a task on a file. If it failed, a message says why.
-pub fn told<T>(
-    rt: &HostRuntime,
-    file: &str,
-    outcome: anyhow::Result<T>,
-) -> anyhow::Result<Option<T>> {
-    match outcome {
-        Ok(value) => Ok(Some(value)),
-        Err(error) => {
-            eprintln!(rt; "card: {file}: {error:#}")?;
-            Ok(None)
-        }
-    }
-}
-
-fn read(rt: &HostRuntime, file: &str) -> anyhow::Result<Image> {
+fn image_in(rt: &HostRuntime, file: &str) -> anyhow::Result<Image> {
     Ok(Image::new(fs::read(rt, file)?)?)
 }
 
-// The image in a file. Where there is none, a message says why.
-pub fn image(rt: &HostRuntime, file: &str) -> anyhow::Result<Option<Image>> {
-    told(rt, file, read(rt, file))
+// The image in a file.
+pub fn load<'a>(rt: &HostRuntime, file: &'a str) -> Result<Image, Failure<'a>> {
+    image_in(rt, file).map_err(|error| Failure::with(file, error))
 }
 
 // The permissions of the file of this name, if there is one. What is there and no regular file, as a folder, a symbolic link or

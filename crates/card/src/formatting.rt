@@ -1,5 +1,6 @@
 // `card format`: makes the image of a new card.
-use crate::files::{save, told};
+use crate::failure::Failure;
+use crate::files::save;
 use crate::status::Status;
 use crate::words::NewCard;
 use device::{PAGE_SIZE, Reader};
@@ -32,9 +33,7 @@ fn make(rt: &HostRuntime, card: &NewCard<'_>) -> anyhow::Result<()> {
     save(rt, card.file, &bytes, card.replaces)
 }
 
-pub fn format(rt: &HostRuntime, card: &NewCard<'_>) -> anyhow::Result<Status> {
-    Ok(match told(rt, card.file, make(rt, card))? {
-        Some(()) => Status::Fine,
-        None => Status::Trouble,
-    })
+pub fn format<'a>(rt: &HostRuntime, card: &NewCard<'a>) -> Result<Status, Failure<'a>> {
+    make(rt, card).map_err(|error| Failure::with(card.file, error))?;
+    Ok(Status::Fine)
 }

@@ -1,3 +1,4 @@
+mod failures;
 mod folder;
 mod new_cards;
 mod refusing;

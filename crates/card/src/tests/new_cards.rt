@@ -9,14 +9,6 @@ use std::fs;
 use std::test::Fail;
 use survey::Verdict;
 
-fn new_card(file: &str, pages: u32, replaces: bool) -> NewCard<'_> {
-    NewCard {
-        file,
-        pages,
-        replaces,
-    }
-}
-
 // From docs/FORMAT.md alone: `python3 tools/make_images.py --new PAGES` prints the CRC-32, by zlib, of such an image.
 const IMAGES: [(u32, u32); 3] = [(16, 0xef67276a), (17, 0x4070eea4), (1024, 0x3a3cc87f)];
 
@@ -34,8 +26,18 @@ fn bytes_of_new_cards(rt: HostRuntime) -> Result<(), Fail> {
 fn sizes_that_no_card_has(rt: HostRuntime) -> Result<(), Fail> {
     clear(&rt, "card_sizes")?;
     for pages in [0, 15, 1025, u32::MAX] {
-        let card = new_card("card_sizes/a.img", pages, true);
-        assert_eq!(rt; format(&rt, &card)?, Status::Trouble);
+        let card = NewCard {
+            file: "card_sizes/a.img",
+            pages,
+            replaces: true,
+        };
+        let Err(failure) = format(&rt, &card) else {
+            return Err("there is such a card".into());
+        };
+        assert_eq!(rt;
+            failure.to_string(rt.alloc())?.as_str(),
+            "card_sizes/a.img: fault 11: the number of pages is not 16 to 1024"
+        );
     }
     assert_eq!(rt; names(&rt, "card_sizes")?.as_str(), "");
     fs::remove_dir_all(&rt, "card_sizes")?;
@@ -45,8 +47,15 @@ fn sizes_that_no_card_has(rt: HostRuntime) -> Result<(), Fail> {
 #[test]
 fn a_new_card_is_sound(rt: HostRuntime) -> Result<(), Fail> {
     clear(&rt, "card_new")?;
-    let card = new_card("card_new/a.img", 16, false);
-    assert_eq!(rt; format(&rt, &card)?, Status::Fine);
+    let card = NewCard {
+        file: "card_new/a.img",
+        pages: 16,
+        replaces: false,
+    };
+    let Ok(status) = format(&rt, &card) else {
+        return Err("it is not made".into());
+    };
+    assert_eq!(rt; status, Status::Fine);
     let mut image = Image::new(fs::read(&rt, card.file)?)?;
     let line = Verdict::of(&mut image).to_string(rt.alloc())?;
     assert_eq!(rt; line.as_str(), "sound: commit 0, pairs 0, levels 1");
