@@ -2,8 +2,10 @@
 """Writes the card images of crates/card/data, each page by itself from docs/FORMAT.md alone.
 
 Run it at the top of the repository: python3 tools/make_images.py
+With --new PAGES it writes nothing, and prints the CRC-32 of the image of a new card of so many pages.
 """
 
+import argparse
 import pathlib
 import struct
 import zlib
@@ -55,6 +57,11 @@ def trips(numbers):
     return [(b"trip/%04d" % n, b"2026-11-16 %d.%d km %d.40 paid" % (n % 30 + 2, n % 10, n % 40 + 10)) for n in numbers]
 
 
+def new_card(count=PAGES):
+    """Commit 0, an empty leaf on page 2."""
+    return {0: meta(2, 0, 0, 1, count), 2: leaf([])}
+
+
 def root_leaf():
     """Commit 1, whose tree is one leaf on page 3; commit 0 had the empty leaf on page 2."""
     pairs = [(b"meter/serial", b"MX-20817"), (b"total/fares", b"18.40"), (b"trip/0001", b"08:12 11.3 km 18.40")]
@@ -101,10 +108,11 @@ def without_meta():
     return pages
 
 
-def main():
+def write_images():
     data = pathlib.Path("crates/card/data")
     data.mkdir(parents=True, exist_ok=True)
     images = {
+        "new.img": image(new_card()),
         "leaf.img": image(root_leaf()),
         "branch.img": image(three_leaves()),
         "flipped.img": image(flipped()),
@@ -115,6 +123,16 @@ def main():
     }
     for name, content in images.items():
         (data / name).write_bytes(content)
+
+
+def main():
+    parser = argparse.ArgumentParser(description="Writes the card images of crates/card/data.")
+    parser.add_argument("--new", type=int, metavar="PAGES", help="print the CRC-32 of a new card's image, and write nothing")
+    pages = parser.parse_args().new
+    if pages is None:
+        write_images()
+    else:
+        print(f"{zlib.crc32(image(new_card(pages), pages)):08x}")
 
 
 if __name__ == "__main__":

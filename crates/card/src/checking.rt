@@ -1,17 +1,17 @@
 // `card check`: a line for each card.
-use crate::files::image;
+use crate::files::load;
 use crate::status::Status;
+use disks::Image;
+use std::io;
 use survey::Verdict;
 
-fn check_one(rt: &HostRuntime, file: &str, is_named: bool) -> anyhow::Result<Status> {
-    let Some(mut image) = image(rt, file)? else {
-        return Ok(Status::Trouble);
-    };
-    let verdict = Verdict::of(&mut image);
+fn show(rt: &HostRuntime, file: &str, image: &mut Image, is_named: bool) -> io::Result<Status> {
+    let verdict = Verdict::of(image);
     if is_named {
-        print!(rt; "{file}: ")?;
+        println!(rt; "{file}: {verdict}")?;
+    } else {
+        println!(rt; "{verdict}")?;
     }
-    println!(rt; "{verdict}")?;
     Ok(if verdict.is_sound() {
         Status::Fine
     } else {
@@ -19,12 +19,16 @@ fn check_one(rt: &HostRuntime, file: &str, is_named: bool) -> anyhow::Result<Sta
     })
 }
 
-// Each line names its file, if there is more than one.
+// Each line names its file, if there is more than one. A file that cannot be read is told of, and the others are looked at.
 pub fn check(rt: &HostRuntime, files: &[&str]) -> anyhow::Result<Status> {
     let is_named = files.len() > 1;
     let mut worst = Status::Fine;
     for file in files {
-        worst = worst.max(check_one(rt, file, is_named)?);
+        let status = match load(rt, file) {
+            Ok(mut image) => show(rt, file, &mut image, is_named)?,
+            Err(failure) => failure.tell(rt),
+        };
+        worst = worst.max(status);
     }
     Ok(worst)
 }

@@ -1,5 +1,6 @@
 // `card format`: makes the image of a new card.
-use crate::files::{save, told};
+use crate::failure::Failure;
+use crate::files::save;
 use crate::status::Status;
 use crate::words::NewCard;
 use device::{PAGE_SIZE, Reader};
@@ -8,11 +9,14 @@ use std::alloc::Global;
 use store::Store;
 use walk::check_room;
 
-// The bytes of a card of so many pages, as a store formats it.
-pub fn formatted(alloc: Global, pages: u32) -> anyhow::Result<Vec<u8>> {
+// The limit of a disk whose power never fails.
+const NO_LIMIT: u64 = 0;
+
+// The bytes of a new card of so many pages, as a store leaves them that formats a blank disk.
+pub fn new_image(alloc: Global, pages: u32) -> anyhow::Result<Vec<u8>> {
     // tested before there is a disk, which may be too large for the memory
     check_room(pages)?;
-    let mut store = Store::new(WriteThrough::new(alloc, pages, 0)?);
+    let mut store = Store::new(WriteThrough::new(alloc, pages, NO_LIMIT)?);
     store.format()?;
     let mut disk = store.into_device();
     let mut bytes = Vec::new(alloc);
@@ -25,13 +29,11 @@ pub fn formatted(alloc: Global, pages: u32) -> anyhow::Result<Vec<u8>> {
 }
 
 fn make(rt: &HostRuntime, card: &NewCard<'_>) -> anyhow::Result<()> {
-    let bytes = formatted(rt.alloc(), card.pages)?;
+    let bytes = new_image(rt.alloc(), card.pages)?;
     save(rt, card.file, &bytes, card.replaces)
 }
 
-pub fn format(rt: &HostRuntime, card: &NewCard<'_>) -> anyhow::Result<Status> {
-    Ok(match told(rt, card.file, make(rt, card))? {
-        Some(()) => Status::Fine,
-        None => Status::Trouble,
-    })
+pub fn format<'a>(rt: &HostRuntime, card: &NewCard<'a>) -> Result<Status, Failure<'a>> {
+    make(rt, card).map_err(|error| Failure::with(card.file, error))?;
+    Ok(Status::Fine)
 }

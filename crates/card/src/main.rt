@@ -3,9 +3,11 @@
 
 use anyhow::Context;
 use clap::ArgMatches;
+use std::env;
 use std::process::ExitCode;
 
 mod checking;
+mod failure;
 mod files;
 mod formatting;
 mod pages;
@@ -14,32 +16,33 @@ mod status;
 mod tests;
 mod words;
 
+use failure::Failure;
 use status::Status;
 use words::Task;
 
-fn answer(rt: &HostRuntime, matches: &ArgMatches<'_>) -> anyhow::Result<Status> {
-    match words::asked(matches).context("no command was given")? {
-        Task::Check(files) => checking::check(rt, files),
+fn answer<'a>(rt: &HostRuntime, matches: &ArgMatches<'a>) -> Result<Status, Failure<'a>> {
+    let task = words::asked(matches).context("the arguments ask for no task")?;
+    match task {
+        Task::Check(files) => Ok(checking::check(rt, files)?),
         Task::Pages(file) => pages::show(rt, file),
         Task::Format(card) => formatting::format(rt, &card),
     }
 }
 
 fn run(rt: &HostRuntime) -> anyhow::Result<Status> {
-    let words: Vec<String> = std::env::args(rt)?.collect(rt.alloc())?;
+    let words: Vec<String> = env::args(rt)
+        .context("the arguments cannot be read")?
+        .collect(rt.alloc())?;
     match words::read(rt.alloc(), words.as_slice()) {
-        Ok(matches) => answer(rt, &matches),
+        Ok(matches) => Ok(answer(rt, &matches).unwrap_or_else(|failure| failure.tell(rt))),
         Err(error) => {
             error.print(rt)?;
-            Ok(Status::of_words(&error))
+            Ok(Status::of_arguments(&error))
         }
     }
 }
 
 fn main(rt: HostRuntime) -> ExitCode {
-    let status = run(&rt).unwrap_or_else(|error| {
-        let _ = eprintln!(rt; "card: {error}");
-        Status::Trouble
-    });
+    let status = run(&rt).unwrap_or_else(|error| Failure::from(error).tell(&rt));
     status.into()
 }

@@ -1,20 +1,10 @@
 // `card pages`: a line for each page of a card.
-use crate::files::image;
+use crate::failure::Failure;
+use crate::files::load;
 use crate::status::Status;
 use device::{PAGE_SIZE, Reader};
 use disks::Image;
 use survey::{Content, Row, Tree, newest};
-
-// The tree of a card; of one that is not sound, the line of its fault.
-fn tree_of(rt: &HostRuntime, image: &mut Image) -> anyhow::Result<Option<Tree>> {
-    match Tree::of(image) {
-        Ok(tree) => Ok(Some(tree)),
-        Err(fault) => {
-            println!(rt; "{fault}")?;
-            Ok(None)
-        }
-    }
-}
 
 // What is said of a page. `commit` is the number of the newest commit.
 pub fn row(
@@ -37,15 +27,22 @@ fn show_pages(rt: &HostRuntime, image: &mut Image, tree: Option<&Tree>) -> anyho
     Ok(())
 }
 
-pub fn show(rt: &HostRuntime, file: &str) -> anyhow::Result<Status> {
-    let Some(mut image) = image(rt, file)? else {
-        return Ok(Status::Trouble);
-    };
-    let tree = tree_of(rt, &mut image)?;
-    show_pages(rt, &mut image, tree.as_ref())?;
-    Ok(if tree.is_some() {
-        Status::Fine
-    } else {
-        Status::Unsound
-    })
+// Of a card that is not sound no tree is known, and the line of its fault comes first.
+fn show_card(rt: &HostRuntime, image: &mut Image) -> anyhow::Result<Status> {
+    match Tree::of(image) {
+        Ok(tree) => {
+            show_pages(rt, image, Some(&tree))?;
+            Ok(Status::Fine)
+        }
+        Err(fault) => {
+            println!(rt; "{fault}")?;
+            show_pages(rt, image, None)?;
+            Ok(Status::Unsound)
+        }
+    }
+}
+
+pub fn show<'a>(rt: &HostRuntime, file: &'a str) -> Result<Status, Failure<'a>> {
+    let mut image = load(rt, file)?;
+    Ok(show_card(rt, &mut image)?)
 }

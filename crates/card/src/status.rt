@@ -4,17 +4,17 @@ use std::process::ExitCode;
 // How a run ends: the worst of what it met.
 #[derive(Clone, Copy, PartialEq, Eq, PartialOrd, Ord, Debug)]
 pub enum Status {
-    // every card is sound, or help was asked for
-    Fine,
+    // every card is sound, or the new one is made, or help was asked for
+    Fine = 0,
     // a card is not sound
-    Unsound,
-    // the words are wrong, or a file could not be read or is no image
-    Trouble,
+    Unsound = 1,
+    // anything else: arguments that are wrong, a file that is no image, a card that is not made, output that is not written
+    Trouble = 2,
 }
 
 impl Status {
-    // Words that ask for help are answered; others that make no task are wrong.
-    pub fn of_words(error: &Error) -> Status {
+    // Of arguments that make no task: those that ask for help are answered, and others are wrong.
+    pub fn of_arguments(error: &Error) -> Status {
         if error.use_stderr() {
             Status::Trouble
         } else {
