@@ -14,10 +14,11 @@ use Rattle.store.specs.declared.client.Answer.{Answer}
 use Rattle.store.specs.declared.client.Answer.TheVariants.{Done}
 use Rattle.store.specs.declared.client.Call.TheVariants.{PowerReturn}
 use Rattle.recovery.specs.Premise.{Premise}
+use Rattle.recovery.specs.Promise.{map_read, ReadsWell}
 use Rattle.recovery.specs.Record.{Record, no_working, unless_off}
 use Rattle.recovery.proofs.Safe.{other, return_safe}
 use Rattle.recovery.proofs.Tracks.{Agrees, Tracks, Alike, alike_safe, IsQuiet, reads_quiet, quieted}
-use Rattle.recovery.proofs.Models.{alike_no_working, alike_unless, reads_agrees}
+use Rattle.recovery.proofs.Models.{alike_no_working, alike_unless, reads_agrees, reads_well}
 
 module _ (s z : Snapshot) (a : Result Answer StoreFault) (t : History) (l : Leads s.medium t z.medium) (base : Medium) (h : History) (k : Record) (i : Tracks base h k s) where
   -- a step of the model, with no call of the device
@@ -39,6 +40,10 @@ module _ (s z : Snapshot) (a : Result Answer StoreFault) (t : History) (l : Lead
       (subst (Agrees (unless_off a k)) (sym b.becomes)
       (rw q (reads_agrees s.medium.bytes (version_of s.state) r buffer k z.medium.on fits want (model_at s) i.agrees b.hands)))
       i
+
+  pub read_well : (fits : Bool) (want : List Pair → Option Pair) → ReadsMap fits want s z a t → ReadsWell (map_read k) want a
+  read_well fits want (r, buffer, q, reads, o) =
+      subst (ReadsWell (map_read k) want) (sym q) (reads_well s.medium.bytes (version_of s.state) r buffer k z.medium.on fits want (model_at s) i.agrees (o i.sound).hands)
 
   -- a power return
   pub return_tracks : Does PowerReturn s z a t → Premise base (t ++ h) → Tracks base (t ++ h) (no_working k) z

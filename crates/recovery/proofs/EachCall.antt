@@ -22,11 +22,11 @@ use Rattle.store.specs.declared.client.Call.TheVariants.{Format, Open, Begin, Ge
 use Rattle.store.specs.declared.state.State.{State}
 use Rattle.store.specs.declared.state.State.TheVariants.{Shut, Idle, InTransaction}
 use Rattle.recovery.specs.Premise.{Premise}
-use Rattle.recovery.specs.Promise.{Claim, Segment, Since, since, on_by}
+use Rattle.recovery.specs.Promise.{CommitsWell, Claim, Segment, Since, since, on_by}
 use Rattle.recovery.specs.Record.{Record, answers_off, begun, aborted, formatted_by, recorded}
-use Rattle.recovery.proofs.Calls.{step_tracks, read_tracks, return_tracks}
+use Rattle.recovery.proofs.Calls.{step_tracks, read_tracks, read_well, return_tracks}
 use Rattle.recovery.proofs.Commits.{commit_tracks}
-use Rattle.recovery.proofs.Models.{alike_same, alike_begun, alike_aborted, begins_agrees, aborts_agrees}
+use Rattle.recovery.proofs.Models.{alike_same, alike_begun, alike_aborted, begins_agrees, aborts_agrees, commits_well}
 use Rattle.recovery.proofs.Opens.{ready, open_goes}
 use Rattle.recovery.proofs.Starts.{starts}
 use Rattle.recovery.proofs.Tracks.{Agrees, Tracks, IsQuiet, quieted}
@@ -115,8 +115,11 @@ each_goes Commit s z a t l d q w None i = ((λ _. tt), (λ _. tt))
 each_goes PowerReturn s z a t l d q w None i = ((λ _. tt), (λ _. tt))
 each_goes Open s z a t l d q w (Some k) i = ((λ p. (open_goes s z t l w.base w.calls k (i p) a d).0), (λ p. (open_goes s z t l w.base w.calls k (i p) a d).1))
 each_goes Begin s z a t l d q w (Some k) i = ((λ p. step_tracks s z a t l w.base w.calls k (i p) begins begun (alike_begun k a) (begins_agrees k) d), (λ _. tt))
-each_goes (Get key) s z a t l d q w (Some k) i = ((λ p. read_tracks s z a t l w.base w.calls k (i p) (is_key (vec_items key)) (pair_with (vec_items key)) d), (λ _. tt))
-each_goes (After key) s z a t l d q w (Some k) i = ((λ p. read_tracks s z a t l w.base w.calls k (i p) (is_short (vec_items key)) (first_above (vec_items key)) d), (λ _. tt))
+each_goes (Get key) s z a t l d q w (Some k) i = ((λ p. read_tracks s z a t l w.base w.calls k (i p) (is_key (vec_items key)) (pair_with (vec_items key)) d), (λ p. read_well s z a t l w.base w.calls k (i p) (is_key (vec_items key)) (pair_with (vec_items key)) d))
+each_goes (After key) s z a t l d q w (Some k) i = ((λ p. read_tracks s z a t l w.base w.calls k (i p) (is_short (vec_items key)) (first_above (vec_items key)) d), (λ p. read_well s z a t l w.base w.calls k (i p) (is_short (vec_items key)) (first_above (vec_items key)) d))
 each_goes Abort s z a t l d q w (Some k) i = ((λ p. step_tracks s z a t l w.base w.calls k (i p) aborts aborted (alike_aborted k a) (aborts_agrees k) d), (λ _. tt))
-each_goes Commit s z a t l d q w (Some k) i = ((λ p. commit_tracks s z a t l d w.base w.calls k (i p)), (λ _. tt))
+each_goes Commit s z a t l d q w (Some k) i = (
+  (λ p. commit_tracks s z a t l d w.base w.calls k (i p)),
+  (λ p. subst (CommitsWell k) (sym d.1) (commits_well k z.medium.on (model_at s) d.0 (i p).agrees (d.2.1 (i p).sound).answers)),
+)
 each_goes PowerReturn s z a t l d q w (Some k) i = ((λ p. return_tracks s z a t l w.base w.calls k (i p) d p), (λ _. tt))

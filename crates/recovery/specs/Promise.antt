@@ -1,12 +1,14 @@
 -- The promise on power loss, over whole runs of calls.
-use Rattle.std.specs.Prelude.{◌≡◌, ℕ, ◌+◌, ◌-◌, ◌≤◌, Bool, true, false, cond, ◌⊎◌, List, [], ◌∷◌, ◌++◌, is_some, is_ok, Some, None, Ok, Err, Option, Result}
+use Rattle.std.specs.Prelude.{◌≡◌, ℕ, ◌+◌, ◌-◌, ◌≤◌, Bool, true, false, cond, ◌⊎◌, List, [], ◌∷◌, ◌++◌, is_some, is_ok, vec_items, Some, None, Ok, Err, Option, Result}
 use Rattle.std.specs.List.{AllByRecursion}
 use Rattle.device.specs.Medium.{Medium}
 use Rattle.device.specs.History.{History, Leads}
 use Rattle.cuts.specs.Nodes.{Pair}
-use Rattle.tree.specs.Maps.{Rising}
+use Rattle.tree.specs.Maps.{Rising, first_above}
 use Rattle.faults.specs.declared.fault.StoreFault.{StoreFault}
+use Rattle.faults.specs.declared.fault.StoreFault.TheVariants.{Absent}
 use Rattle.paged.specs.Paged.{pairs_on}
+use Rattle.search.specs.Finding.{pair_with}
 use Rattle.walk.specs.Checking.{Holding, found_on}
 use Rattle.store.specs.Acting.{IsAllowed}
 use Rattle.store.specs.Client.{Does}
@@ -18,7 +20,7 @@ use Rattle.store.specs.declared.client.Answer.TheVariants.{Number}
 use Rattle.store.specs.declared.client.Call.{Call}
 use Rattle.store.specs.declared.client.Call.TheVariants.{Format, Open, Begin, Get, After, Abort, Commit, PowerReturn}
 use Rattle.store.specs.declared.state.State.TheVariants.{Shut}
-use Rattle.recovery.specs.Record.{Record, opened_by, recorded}
+use Rattle.recovery.specs.Record.{Record, working_or, opened_by, recorded}
 
 -- what an opening found on the medium: commit c, with exactly these pairs, in rising order, in a tree whose leaves lie
 -- equally deep (as those of every PagedTree do) and which has at most seven levels
@@ -46,17 +48,30 @@ abbrev pub Unless : {X : Type 0} → Option X → Type 0 → Type 0
 Unless None P = P
 Unless (Some x) P = Unit {0}
 
--- What is promised of a call that answered a, where k was the record before it, and n the medium after it: an opening outside
--- a transaction goes well.
+-- the map that a read is of: in a transaction the working one, else the committed one
+abbrev pub map_read : Record → List Pair
+map_read k = working_or k.working k.committed
+
+-- a read finds what is wanted exactly if the map has it, unless it is refused for something else
+abbrev pub ReadsWell : List Pair → (List Pair → Option Pair) → Result Answer StoreFault → Type 0
+ReadsWell map want (Ok a) = is_some (want map) ≡ true
+ReadsWell map want (Err f) = f ≡ Absent → want map ≡ None
+
+-- an accepted commit answers the next number
+abbrev pub CommitsWell : Record → Result Answer StoreFault → Type 0
+CommitsWell k (Ok a) = a ≡ Number (k.number + 1)
+CommitsWell k (Err f) = Unit {0}
+
+-- What is promised of a call that answered a, where k was the record before it, and n the medium after it.
 abbrev pub Claim : Option Record → Call → Result Answer StoreFault → Medium → Type 0
 Claim None c a n = Unit {0}
 Claim (Some k) Format a n = Unit {0}
 Claim (Some k) Open a n = Unless k.working (OpensOrIsOff k a n)
 Claim (Some k) Begin a n = Unit {0}
-Claim (Some k) (Get key) a n = Unit {0}
-Claim (Some k) (After key) a n = Unit {0}
+Claim (Some k) (Get key) a n = ReadsWell (map_read k) (pair_with (vec_items key)) a
+Claim (Some k) (After key) a n = ReadsWell (map_read k) (first_above (vec_items key)) a
 Claim (Some k) Abort a n = Unit {0}
-Claim (Some k) Commit a n = Unit {0}
+Claim (Some k) Commit a n = CommitsWell k a
 Claim (Some k) PowerReturn a n = Unit {0}
 
 -- the device's calls in one call of the client, and the store after them

@@ -21,6 +21,11 @@ pub record Record : Type 0 where
 abbrev pub record_of : ℕ → List Pair → Option (List Pair) → Option (List Pair) → Record
 record_of c m w d = record { number = c; committed = m; working = w; in_doubt = d }
 
+-- the working map, or where there is none, another
+abbrev pub working_or : Option (List Pair) → List Pair → List Pair
+working_or None m = m
+working_or (Some w) m = w
+
 -- of a store that was just formatted
 abbrev pub fresh : Record
 fresh = record_of 0 [] None None
