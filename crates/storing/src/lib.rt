@@ -2,9 +2,13 @@
 #![tactic(auto)]
 
 #[cfg(test)]
+mod asking;
+#[cfg(test)]
 mod keys;
 #[cfg(test)]
 mod losses;
+#[cfg(test)]
+mod makers;
 #[cfg(test)]
 mod numbers;
 #[cfg(test)]
