@@ -4,6 +4,8 @@
 #[cfg(test)]
 mod asking;
 #[cfg(test)]
+mod damage;
+#[cfg(test)]
 mod keys;
 #[cfg(test)]
 mod losses;
