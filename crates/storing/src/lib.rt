@@ -6,6 +6,8 @@ mod asking;
 #[cfg(test)]
 mod damage;
 #[cfg(test)]
+mod devices;
+#[cfg(test)]
 mod keys;
 #[cfg(test)]
 mod losses;
@@ -13,6 +15,8 @@ mod losses;
 mod makers;
 #[cfg(test)]
 mod numbers;
+#[cfg(test)]
+mod returns;
 #[cfg(test)]
 mod sizes;
 #[cfg(test)]
