@@ -8,6 +8,8 @@ mod damage;
 #[cfg(test)]
 mod devices;
 #[cfg(test)]
+mod formats;
+#[cfg(test)]
 mod keys;
 #[cfg(test)]
 mod losses;
