@@ -14,10 +14,10 @@ use Rattle.store.specs.declared.client.Answer.{Answer}
 use Rattle.store.specs.declared.client.Answer.TheVariants.{Done}
 use Rattle.store.specs.declared.client.Call.TheVariants.{PowerReturn}
 use Rattle.recovery.specs.Premise.{Premise}
-use Rattle.recovery.specs.Promise.{map_read, ReadsWell}
+use Rattle.recovery.specs.Promise.{Agrees, map_read, ReadsWell}
 use Rattle.recovery.specs.Record.{Record, no_working, unless_off}
 use Rattle.recovery.proofs.Safe.{other, return_safe}
-use Rattle.recovery.proofs.Tracks.{Agrees, Tracks, Alike, alike_safe, IsQuiet, reads_quiet, quieted}
+use Rattle.recovery.proofs.Tracks.{Tracks, Alike, alike_safe, IsQuiet, reads_quiet, quieted}
 use Rattle.recovery.proofs.Models.{alike_no_working, alike_unless, reads_agrees, reads_well}
 
 module _ (s z : Snapshot) (a : Result Answer StoreFault) (t : History) (l : Leads s.medium t z.medium) (base : Medium) (h : History) (k : Record) (i : Tracks base h k s) where

@@ -28,7 +28,8 @@ use Rattle.store.proofs.Kept.{all_true, stands_keep, pairs_keep}
 use Rattle.store.proofs.Commits.{same, sealed, cut_off}
 use Rattle.recovery.specs.Record.{Record, record_of, no_working, committed_by, now_in_doubt, now_committed}
 use Rattle.recovery.proofs.Safe.{Whole, Safe, other, doubting, write_safe, mild_before}
-use Rattle.recovery.proofs.Tracks.{Agrees, Tracks, settled_safe, IsQuiet, quiet_calls, quieted}
+use Rattle.recovery.specs.Promise.{Agrees}
+use Rattle.recovery.proofs.Tracks.{Tracks, settled_safe, IsQuiet, quiet_calls, quieted}
 use Rattle.recovery.proofs.Models.{alike_no_working}
 
 -- a write that at most changed its page, and left there what was written or what was there

@@ -22,14 +22,14 @@ use Rattle.store.specs.declared.client.Call.TheVariants.{Format, Open, Begin, Ge
 use Rattle.store.specs.declared.state.State.{State}
 use Rattle.store.specs.declared.state.State.TheVariants.{Shut, Idle, InTransaction}
 use Rattle.recovery.specs.Premise.{Premise}
-use Rattle.recovery.specs.Promise.{CommitsWell, Claim, Segment, Since, since, on_by}
+use Rattle.recovery.specs.Promise.{AgreesIfKnown, Agrees, CommitsWell, Claim, Segment, Since, since, on_by}
 use Rattle.recovery.specs.Record.{Record, answers_off, begun, aborted, formatted_by, recorded}
 use Rattle.recovery.proofs.Calls.{step_tracks, read_tracks, read_well, return_tracks}
 use Rattle.recovery.proofs.Commits.{commit_tracks}
 use Rattle.recovery.proofs.Models.{alike_same, alike_begun, alike_aborted, begins_agrees, aborts_agrees, commits_well}
 use Rattle.recovery.proofs.Opens.{ready, open_goes}
 use Rattle.recovery.proofs.Starts.{starts}
-use Rattle.recovery.proofs.Tracks.{Agrees, Tracks, IsQuiet, quieted}
+use Rattle.recovery.proofs.Tracks.{Tracks, IsQuiet, quieted}
 
 pub stays_sound : (c : Call) (s z : Snapshot) (a : Result Answer StoreFault) (t : History) → Does c s z a t → IsSound s → IsSound z
 stays_sound Format s z a t d i = (d.2.2 i).sound
@@ -45,6 +45,10 @@ stays_sound PowerReturn s z a t d i = subst (λ v. Sound z.medium v z.held) (sym
 abbrev pub Follows : Since → Option Record → Snapshot → Type 0
 Follows w None s = Unit {0}
 Follows w (Some k) s = Tracks w.base w.calls k s
+
+pub follows_agrees : (w : Since) (k : Option Record) (s : Snapshot) → Follows w k s → AgreesIfKnown k (model_at s)
+follows_agrees w None s i = tt
+follows_agrees w (Some k) s i = i.agrees
 
 -- the calls t of the device in one call of the client
 abbrev pub segment : History → Snapshot → Segment

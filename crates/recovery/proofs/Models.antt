@@ -9,9 +9,9 @@ use Rattle.store.specs.Reading.{HandsOut}
 use Rattle.store.specs.declared.client.Answer.{Answer}
 use Rattle.store.specs.declared.client.Answer.TheVariants.{Number, Cell, Done}
 use Rattle.meta.specs.declared.Meta.{Meta}
-use Rattle.recovery.specs.Promise.{map_read, ReadsWell, CommitsWell}
+use Rattle.recovery.specs.Promise.{Agrees, map_read, ReadsWell, CommitsWell}
 use Rattle.recovery.specs.Record.{Record, working_or, no_working, answers_off, unless_off, begun, aborted}
-use Rattle.recovery.proofs.Tracks.{Agrees, Alike}
+use Rattle.recovery.proofs.Tracks.{Alike}
 
 pub alike_same : (k : Record) → Alike k k
 alike_same k = record { number = refl; committed = refl; in_doubt = refl }

@@ -27,10 +27,10 @@ use Rattle.store.specs.Versions.{height_of, tree_of, pairs_held, Sound}
 use Rattle.store.specs.declared.client.Answer.{Answer}
 use Rattle.store.specs.declared.client.Answer.TheVariants.{Number}
 use Rattle.store.proofs.Found.{read_tells}
-use Rattle.recovery.specs.Promise.{Finds, OpensOrIsOff, Unless}
+use Rattle.recovery.specs.Promise.{Agrees, Finds, OpensOrIsOff, Unless}
 use Rattle.recovery.specs.Record.{Record, record_of, no_working, no_doubt, opened_by}
 use Rattle.recovery.proofs.Safe.{Whole, Doubt, Safe, mine, other, Newest, itself, doubtful, newest_of, mild_before}
-use Rattle.recovery.proofs.Tracks.{Agrees, Tracks, settled_safe, IsQuiet, opening_quiet, quiet_keeps, quiet_on, quiet_calls, quieted}
+use Rattle.recovery.proofs.Tracks.{Tracks, settled_safe, IsQuiet, opening_quiet, quiet_keeps, quiet_on, quiet_calls, quieted}
 use Rattle.recovery.proofs.Models.{alike_same, alike_no_working}
 
 -- what an opening finds on a medium with this version

@@ -15,7 +15,7 @@ use Rattle.store.specs.declared.client.Call.{Call}
 use Rattle.recovery.specs.Premise.{Premise}
 use Rattle.recovery.specs.Promise.{Segment, Since, since, on_by, Claims, Passes, calls_of, New, Keeps}
 use Rattle.recovery.specs.Record.{Record, recorded}
-use Rattle.recovery.proofs.EachCall.{segment, Follows, stays_sound, each_goes}
+use Rattle.recovery.proofs.EachCall.{segment, Follows, follows_agrees, stays_sound, each_goes}
 
 pub premise_before : (base : Medium) (t h : History) → Premise base (t ++ h) → Premise base h
 premise_before base [] h p = p
@@ -91,7 +91,7 @@ module _ {P : History → Type 0} {m : Medium} {Q : History → Type 0} {R : His
           stays_sound c s z a u y.4 i.7,
           λ ds es ts q.
               claims_as (since m []) None _ _ _ _ _ _ (sym (append_assoc cs (c ∷ []) ds)) (sym (append_assoc bs (a ∷ []) es)) (sym (append_assoc ss (r ∷ []) ts))
-              (i.8 (c ∷ ds) (a ∷ es) (r ∷ ts) (goes.1, q)),
+              (i.8 (c ∷ ds) (a ∷ es) (r ∷ ts) (goes.1, (λ p. follows_agrees _ _ _ (goes.0 p)), q)),
           goes.0,
         );
   }

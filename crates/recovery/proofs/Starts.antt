@@ -12,7 +12,8 @@ use Rattle.store.specs.Model.{shut}
 use Rattle.store.specs.Snapshots.{Snapshot, IsSound, model_at}
 use Rattle.recovery.specs.Record.{fresh}
 use Rattle.recovery.proofs.Safe.{Whole, Mild}
-use Rattle.recovery.proofs.Tracks.{Agrees, Tracks, settled_safe}
+use Rattle.recovery.specs.Promise.{Agrees}
+use Rattle.recovery.proofs.Tracks.{Tracks, settled_safe}
 
 module _ (m : Medium) (f : Fresh m) where
   enough : 16 ≤ m.size

@@ -1,5 +1,5 @@
 -- The store and the client's record, from call to call.
-use Rattle.std.proofs.Common.{◌≡◌, ℕ, Bool, true, false, ◌⊎◌, List, [], ◌∷◌, ◌++◌, Some, None, Ok, Err, Result, sym, refl, ap, ◌∙◌, subst, inl, inr, ⊎_elim}
+use Rattle.std.proofs.Common.{◌≡◌, ℕ, Bool, true, false, ◌⊎◌, List, [], ◌∷◌, ◌++◌, Ok, Err, Result, sym, refl, ap, ◌∙◌, subst, inl, inr, ⊎_elim}
 use Rattle.std.specs.List.{AllByRecursion}
 use Rattle.std.proofs.ByRecursion.{All-append, All-weaker}
 use Rattle.std.proofs.lemmas.Bool.{both_ways}
@@ -13,19 +13,13 @@ use Rattle.device.proofs.Looking.{keeps_same, keeps_more, read_keeps, leads_more
 use Rattle.meta.specs.Layout.{meta_page}
 use Rattle.meta.specs.declared.Meta.{Meta}
 use Rattle.walk.specs.Checking.{fits_pages}
-use Rattle.store.specs.Model.{Model, shut, idle, active}
 use Rattle.store.specs.Acting.{CallsIf}
 use Rattle.store.specs.Opening.{SyncsAndReads}
 use Rattle.store.specs.Snapshots.{Snapshot, IsSound, model_at}
 use Rattle.store.specs.Versions.{pairs_held}
+use Rattle.recovery.specs.Promise.{Agrees}
 use Rattle.recovery.specs.Record.{Record}
 use Rattle.recovery.proofs.Safe.{Whole, Mild, Safe, mine, other, quiet_safe}
-
--- what the record says of the store's map: whether it is in a transaction, and unless it is shut, the number and the map
-abbrev pub Agrees : Record → Model → Type 0
-Agrees k shut = k.working ≡ None
-Agrees k (idle c m) = (k.working ≡ None) × (k.in_doubt ≡ None) × (c ≡ k.number) × (m ≡ k.committed)
-Agrees k (active c m w) = (k.working ≡ Some w) × (k.in_doubt ≡ None) × (c ≡ k.number) × (m ≡ k.committed)
 
 -- The calls h led from the medium `base` to the store s, and k is the record of its client.
 pub record Tracks (base : Medium) (h : History) (k : Record) (s : Snapshot) : Type 0 where

@@ -12,8 +12,8 @@ use Rattle.search.specs.Finding.{pair_with}
 use Rattle.walk.specs.Checking.{Holding, found_on}
 use Rattle.store.specs.Acting.{IsAllowed}
 use Rattle.store.specs.Client.{Does}
-use Rattle.store.specs.Model.{off}
-use Rattle.store.specs.Snapshots.{Snapshot}
+use Rattle.store.specs.Model.{Model, shut, idle, active, off}
+use Rattle.store.specs.Snapshots.{Snapshot, model_at}
 use Rattle.store.specs.Versions.{Forgotten}
 use Rattle.store.specs.declared.client.Answer.{Answer}
 use Rattle.store.specs.declared.client.Answer.TheVariants.{Number}
@@ -44,6 +44,7 @@ OpensWell k a n = (c : ℕ)
 abbrev pub OpensOrIsOff : Record → Result Answer StoreFault → Medium → Type 0
 OpensOrIsOff k a n = (n.on ≡ true → OpensWell k a n) × (n.on ≡ false → a ≡ Err off)
 
+-- P, unless there is such a thing
 abbrev pub Unless : {X : Type 0} → Option X → Type 0 → Type 0
 Unless None P = P
 Unless (Some x) P = Unit {0}
@@ -100,8 +101,20 @@ is_formatted PowerReturn a = false
 abbrev pub on_by : Call → Result Answer StoreFault → Segment → Since → Since
 on_by c a s w = cond (is_formatted c a) (since s.after.medium []) (since w.base (s.calls ++ w.calls))
 
+-- The store's model is what the record has: it is in a transaction exactly if there is a working map, and unless it is shut,
+-- its number and its maps are the record's.
+abbrev pub Agrees : Record → Model → Type 0
+Agrees k shut = k.working ≡ None
+Agrees k (idle c m) = (k.working ≡ None) × (k.in_doubt ≡ None) × (c ≡ k.number) × (m ≡ k.committed)
+Agrees k (active c m w) = (k.working ≡ Some w) × (k.in_doubt ≡ None) × (c ≡ k.number) × (m ≡ k.committed)
+
+abbrev pub AgreesIfKnown : Option Record → Model → Type 0
+AgreesIfKnown None s = Unit {0}
+AgreesIfKnown (Some k) s = Agrees k s
+
 -- Of each call in turn: where what is asked of the device's calls since the last format, up to its end, holds of them, it
--- answered as promised. The calls w came before these, and k was the record then.
+-- answered as promised, and the store after it is what the record has then. The calls w came before these, and k was the
+-- record then.
 abbrev pub Claims : (asked : Medium → History → Type 0) → (w : Since) → Option Record → List Call → List (Result Answer StoreFault) → List Segment → Type 0
 Claims asked w k [] [] [] = Unit {0}
 Claims asked w k [] [] (s ∷ ss) = ⊥
@@ -109,7 +122,10 @@ Claims asked w k [] (a ∷ bs) ss = ⊥
 Claims asked w k (c ∷ cs) [] ss = ⊥
 Claims asked w k (c ∷ cs) (a ∷ bs) [] = ⊥
 Claims asked w k (c ∷ cs) (a ∷ bs) (s ∷ ss) =
-    (asked w.base (s.calls ++ w.calls) → Claim k c a s.after.medium) × Claims asked (on_by c a s w) (recorded k c a) cs bs ss
+    let v = on_by c a s w in
+    (asked w.base (s.calls ++ w.calls) → Claim k c a s.after.medium)
+    × (asked v.base v.calls → AgreesIfKnown (recorded k c a) (model_at s.after))
+    × Claims asked v (recorded k c a) cs bs ss
 
 -- the calls one after another: each did what the store promises of it and answered so, by the device's calls of its segment,
 -- which are such as the rules of a device allow; the store was s, and is z

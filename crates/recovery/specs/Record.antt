@@ -36,11 +36,12 @@ no_working k = record_of k.number k.committed None k.in_doubt
 abbrev pub no_doubt : Record → Record
 no_doubt k = record_of k.number k.committed k.working None
 
--- any answer that the device is off leaves no working map
+-- whether it answers that the device is off
 abbrev pub answers_off : Result Answer StoreFault → Bool
 answers_off (Ok a) = false
 answers_off (Err f) = fault_number f == 10
 
+-- such an answer leaves no working map
 abbrev pub unless_off : Result Answer StoreFault → Record → Record
 unless_off a k = cond (answers_off a) (no_working k) k
 
@@ -66,9 +67,7 @@ now_in_doubt k (Some w) = record_of k.number k.committed None (Some w)
 now_in_doubt k None = no_working k
 
 abbrev pub committed_by : Record → Result Answer StoreFault → Record
-committed_by k (Ok (Number c)) = now_committed k k.working
-committed_by k (Ok (Cell c)) = no_working k
-committed_by k (Ok Done) = no_working k
+committed_by k (Ok a) = now_committed k k.working
 committed_by k (Err f) = cond (answers_off (Err f)) (now_in_doubt k k.working) (no_working k)
 
 -- an accepted opening that answers the next number has found the map in doubt; after any, none is in doubt
@@ -78,8 +77,8 @@ now_found k None = no_doubt k
 
 abbrev pub opened_by : Record → Result Answer StoreFault → Record
 opened_by k (Ok (Number c)) = cond (c == k.number + 1) (now_found k k.in_doubt) (no_doubt k)
-opened_by k (Ok (Cell c)) = k
-opened_by k (Ok Done) = k
+opened_by k (Ok (Cell c)) = no_doubt k
+opened_by k (Ok Done) = no_doubt k
 opened_by k (Err f) = unless_off (Err f) k
 
 -- an accepted format begins the record anew; after one that power interrupted, nothing is known of what the device holds

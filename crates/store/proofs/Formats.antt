@@ -12,7 +12,7 @@ use Rattle.page.specs.Views.{pairs_in}
 use Rattle.meta.specs.Layout.{meta_page}
 use Rattle.walk.specs.Checking.{fits_pages}
 use Rattle.store.specs.Acting.{Acts, events_of, GoesBy}
-use Rattle.store.specs.Formatting.{first_meta, Fresh, plan, WritesOut, Leaves, LaysOut}
+use Rattle.store.specs.Formatting.{first_meta, Fresh, plan, WritesOut, LaidOut, LaysOut}
 use Rattle.store.specs.Sealing.{Seals}
 use Rattle.store.proofs.Acting.{acts_one, acts_more, events_more}
 use Rattle.store.proofs.Commits.{cut_off}
@@ -93,12 +93,12 @@ module _ (leaf : List ℕ) (z : first_fault leaf_rules leaf ≡ None) (y : pairs
         sealed_plan v t u (Err f) i (inr (inl s)) = inr (inl (events_more t u _ _ i.3 (ap events_of s.3)))
         sealed_plan v t u (Err f) i (inr (inr s)) = inl (events_more t u _ _ i.3 (ap events_of s.5))
 
-        sealed_leaves : (v : Medium) (t u : History) (a : Result Unit DeviceFault) → Written t → Seals (first_meta m.size) q v u a → Leaves m v a
-        sealed_leaves v t u (Ok w) i s = laid m n o q v m.size u refl i.0 i.1 i.2 s
-        sealed_leaves v t u (Err f) i s = λ r. cut_off q v (first_meta m.size) u f (room_on o q 2 leaf i.2 (room_on n o 1 zeros i.1 (room_on m n 0 zeros i.0 r))) s
+        sealed_laid : (v : Medium) (t u : History) (a : Result Unit DeviceFault) → Written t → Seals (first_meta m.size) q v u a → LaidOut m v a
+        sealed_laid v t u (Ok w) i s = laid m n o q v m.size u refl i.0 i.1 i.2 s
+        sealed_laid v t u (Err f) i s = λ r. cut_off q v (first_meta m.size) u f (room_on o q 2 leaf i.2 (room_on n o 1 zeros i.1 (room_on m n 0 zeros i.0 r))) s
 
         pub sealed_out : (T : History → Type 0) (v : Medium) (size : ℕ) (a : Result Unit DeviceFault) → size ≡ m.size → Happens R o (did_write 2 leaf (Ok tt)) S q
             → Acts S q T v (λ t. Seals (first_meta size) q v t a) → Acts P m T v (λ t. LaysOut m v t a)
         sealed_out T v size a e three l =
             acts_more _ _ _ (step_three three) (subst (λ (k : ℕ). Acts S q T v (λ t. Seals (first_meta k) q v t a)) e l)
-            (λ t u _ _ _ _ i j. (as_planned m.size _ a (sealed_plan v t u a i j), sealed_leaves v t u a i j))
+            (λ t u _ _ _ _ i j. (as_planned m.size _ a (sealed_plan v t u a i j), sealed_laid v t u a i j))

@@ -13,7 +13,7 @@ use Rattle.store.specs.declared.state.State.{State}
 use Rattle.store.specs.declared.state.State.TheVariants.{Shut, Idle, InTransaction}
 use Rattle.store.specs.declared.ticket.Ticket.{Ticket}
 
--- A sound store answers as the model does, becomes what the model becomes, and stays sound. It was s, and is z.
+-- The store answers as the model does, becomes what the model becomes, and is sound then. It was s, and is z.
 pub record Obeys {A : Type 0} (s z : Snapshot) (step : Model → Stepped A) (a : Result A StoreFault) : Type 0 where
   pub answers : a ≡ (step (model_at s)).answer
   pub becomes : model_at z ≡ (step (model_at s)).model
@@ -27,12 +27,13 @@ abbrev pub granted : Result Ticket StoreFault → Result Unit StoreFault
 granted (Ok t) = Ok tt
 granted (Err f) = Err f
 
--- the calls t by which a commit led from m to n: none if it is refused for the state s, and else those that make the
--- working version durable
+-- the calls t that made the version w durable, or were cut off by a refusal, with the store's answer
 abbrev pub SealedBy : Meta → Medium → Medium → History → Result ℕ StoreFault → Type 0
 SealedBy w m n t (Ok c) = Seals w m n t (Ok tt)
 SealedBy w m n t (Err f) = (d : DeviceFault) × (f ≡ from_device d) × Seals w m n t (Err d)
 
+-- the calls t by which a commit led from m to n: none if it is refused for the state, and else those that seal the working
+-- version
 abbrev pub CommitCalls : State → Medium → Medium → History → Result ℕ StoreFault → Type 0
 CommitCalls Shut m n t a = (t ≡ []) × (n ≡ m)
 CommitCalls (Idle x) m n t a = (t ≡ []) × (n ≡ m)

@@ -42,14 +42,14 @@ plan size leaf =
 abbrev pub WritesOut : (size : ℕ) → History → (a : Result Unit DeviceFault) → Type 0
 WritesOut size t a = (leaf : List ℕ) × (first_fault leaf_rules leaf ≡ None) × (pairs_in leaf ≡ []) × GoesBy (plan size leaf) a (events_of t)
 
--- what laying out a device leaves, if that has room
-abbrev pub Leaves : Medium → Medium → Result Unit DeviceFault → Type 0
-Leaves m n (Ok u) = fits_pages m.size ≡ true → Fresh n
-Leaves m n (Err f) = fits_pages m.size ≡ true → (f ≡ Off) × (n.on ≡ false)
+-- what a device is after it was laid out, if it has room
+abbrev pub LaidOut : Medium → Medium → Result Unit DeviceFault → Type 0
+LaidOut m n (Ok u) = fits_pages m.size ≡ true → Fresh n
+LaidOut m n (Err f) = fits_pages m.size ≡ true → (f ≡ Off) × (n.on ≡ false)
 
 -- laying it out, by the calls t
 abbrev pub LaysOut : Medium → Medium → History → Result Unit DeviceFault → Type 0
-LaysOut m n t a = WritesOut m.size t a × Leaves m n a
+LaysOut m n t a = WritesOut m.size t a × LaidOut m n a
 
 -- the answer of a store to a format that got to the device
 abbrev pub WritesOutFor : (size : ℕ) → History → Result Unit StoreFault → Type 0

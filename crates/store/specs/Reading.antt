@@ -55,7 +55,7 @@ abbrev pub HandsOut : (m : ℕ → List ℕ) → Option Meta → Result Pair Sto
 HandsOut m v (Err f) a buffer = (a ≡ Err f) × (buffer ≡ zeros)
 HandsOut m v (Ok p) a buffer = (cell : ℕ) × (a ≡ Ok cell) × InLeafOf m v p buffer cell
 
--- a sound store hands out what the model finds, becomes what the model becomes, and stays sound
+-- the store hands out what the model finds, becomes what the model becomes, and is sound then
 pub record Hands (s z : Snapshot) (step : Model → Stepped Pair) (a : Result ℕ StoreFault) (buffer : List ℕ) : Type 0 where
   pub hands : HandsOut s.medium.bytes (version_of s.state) (step (model_at s)).answer a buffer
   pub becomes : model_at z ≡ (step (model_at s)).model

@@ -16,7 +16,7 @@ use Rattle.store.specs.declared.state.State.{State}
 use Rattle.store.specs.declared.state.State.TheVariants.{Shut, Idle, InTransaction}
 use Rattle.store.specs.declared.state.Held.{Held}
 
--- the tree that a meta names, where m gives the bytes of each page, its pages, and its pairs
+-- the height of the tree that a meta names; where m gives the bytes of each page, that tree, its pages, and its pairs
 abbrev pub height_of : Meta → ℕ
 height_of x = x.levels - 1
 

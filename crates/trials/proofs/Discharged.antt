@@ -12,13 +12,13 @@ use Rattle.disks.specs.declared.disk.Disk.{Disk}
 use Rattle.disks.specs.declared.stored.Stored.{Ghosts}
 use Rattle.faults.specs.declared.fault.StoreFault.{StoreFault}
 use Rattle.recovery.specs.Premise.{MakesUpNone, Premise}
-use Rattle.recovery.specs.Promise.{Claim, Segment, Since, since, is_formatted, Claims, Passes, calls_of, Keeps}
+use Rattle.recovery.specs.Promise.{AgreesIfKnown, Claim, Segment, Since, since, is_formatted, Claims, Passes, calls_of, Keeps}
 use Rattle.recovery.specs.Record.{Record, answers_off, recorded}
 use Rattle.recovery.specs.Runs.{RunsTo}
 use Rattle.recovery.specs.declared.running.Entry.{Entry}
 use Rattle.recovery.proofs.Runs.{premise_before}
 use Rattle.recovery.proofs.Tracks.{last_is}
-use Rattle.store.specs.Snapshots.{Snapshot, snap}
+use Rattle.store.specs.Snapshots.{Snapshot, snap, model_at}
 use Rattle.store.specs.declared.client.Answer.{Answer}
 use Rattle.store.specs.Client.{Does}
 use Rattle.store.specs.declared.client.Call.{Call}
@@ -80,13 +80,18 @@ module _ (from : Medium) (full : History) (z : Snapshot)
   claims_met s w t k [] (a ∷ bs) gs p l m d e c = absurd c
   claims_met s w t k (x ∷ cs) [] gs p l m d e c = absurd c
   claims_met s w t k (x ∷ cs) (a ∷ bs) [] p l m d e c = absurd c
-  claims_met s w t k (x ∷ cs) (a ∷ bs) (g ∷ gs) p l m d e c = (
-    (λ _. here k d c.0),
-    next (is_formatted x a) (since g.after.medium []) (since w.base u) refl
-        (λ f. claims_met g.after (since g.after.medium []) (u ++ t) (recorded k x a) cs bs gs p.3 (leads_more from w.base g.after.medium t u l leads) refl (λ _. formatted_durable x a s g.after g.calls p.0 f) split)
-        (λ f. claims_met g.after (since w.base u) t (recorded k x a) cs bs gs p.3 l leads (λ q. d (still_known k x a f q)) split)
-        c.1,
-  )
+  claims_met s w t k (x ∷ cs) (a ∷ bs) (g ∷ gs) p l m d e c =
+      let rest = next (is_formatted x a) (since g.after.medium []) (since w.base u) refl
+      (λ f y. (
+        (λ _. y.0 tt),
+        claims_met g.after (since g.after.medium []) (u ++ t) (recorded k x a) cs bs gs p.3 (leads_more from w.base g.after.medium t u l leads) refl (λ _. formatted_durable x a s g.after g.calls p.0 f) split y.1,
+      ))
+      (λ f y. (
+        (λ _. known (recorded k x a) (λ q. premise (d (still_known k x a f q))) y.0),
+        claims_met g.after (since w.base u) t (recorded k x a) cs bs gs p.3 l leads (λ q. d (still_known k x a f q)) split y.1,
+      ))
+      (c.1, c.2) in
+      ((λ _. here k d c.0), rest.0, rest.1)
     where
       u : History
       u = g.calls ++ w.calls
@@ -107,9 +112,16 @@ module _ (from : Medium) (full : History) (z : Snapshot)
       here None d c = tt
       here (Some k) d c = c (premise (d refl))
 
-      next : (b : Bool) (v v' : Since) → is_formatted x a ≡ b → (is_formatted x a ≡ true → Claims Premise v (recorded k x a) cs bs gs → Claims Anything v (recorded k x a) cs bs gs)
-          → (is_formatted x a ≡ false → Claims Premise v' (recorded k x a) cs bs gs → Claims Anything v' (recorded k x a) cs bs gs)
-          → Claims Premise (cond b v v') (recorded k x a) cs bs gs → Claims Anything (cond b v v') (recorded k x a) cs bs gs
+      -- the store after it, as the record has it
+      After : (Medium → History → Type 0) → Since → Type 0
+      After asked v = (asked v.base v.calls → AgreesIfKnown (recorded k x a) (model_at g.after)) × Claims asked v (recorded k x a) cs bs gs
+
+      known : (k' : Option Record) → (is_some k' ≡ true → Premise w.base u) → (Premise w.base u → AgreesIfKnown k' (model_at g.after)) → AgreesIfKnown k' (model_at g.after)
+      known None q y = tt
+      known (Some k') q y = y (q refl)
+
+      next : (b : Bool) (v v' : Since) → is_formatted x a ≡ b → (is_formatted x a ≡ true → After Premise v → After Anything v)
+          → (is_formatted x a ≡ false → After Premise v' → After Anything v') → After Premise (cond b v v') → After Anything (cond b v v')
       next true v v' e f g = f e
       next false v v' e f g = g e
 

@@ -15,6 +15,6 @@ Anything m h = Unit {0}
 abbrev pub FromDurable : (P : History → Type 0) → Medium → History → Type 0
 FromDurable P m h = P h × ((base : Medium) × Durable base × Leads base h m)
 
--- no call has to lead to a disk of blank pages, as a new one is
+-- to a disk of blank pages, as a new one is, no call need have led, and all its pages are durable
 abbrev pub BlankDisksAreDurable : {S : Type 0} → Ghosts S → Type 0
 BlankDisksAreDurable {S} g = (d : Disk S g) (n : ℕ) → pages_of d ≡ replicate n blank → FromDurable (disk_past d) (disk_medium d) []

@@ -1,5 +1,5 @@
 // Get and after: the leaf page goes into the caller's buffer, and the number of the cell is the answer. Each tests what it
-// refuses in its own text, so that it reads as the rule that it follows; the rest is one function.
+// refuses before it reads in its own text, so that it reads as the rule that it follows; the rest is one function.
 ghost use Rattle.std.specs.Prelude.{◌≡◌, true, List, Ok, Option, OnErr};
 ghost use Rattle.device.specs.Medium.{zeros};
 ghost use Rattle.cuts.specs.Nodes.{Pair};
