@@ -2,7 +2,7 @@
 use Rattle.std.proofs.Common.{◌≡◌, ℕ, Bool, Decides, ◌%◌, ◌^◌, ◌<◌, ◌≤◌, true, false, cond, List, length, get_or, Some, None, sym, refl, ap, ◌∙◌, ⊎_elim, arith}
 use Rattle.std.specs.Bool.{then_some}
 use Rattle.std.proofs.lemmas.Slice.Eq.{bytes_eq-Decides}
-use Rattle.std.proofs.lemmas.Bool.{and_parts, and_from, cases_Bool, eqb-true, leb-true, ltb-true, eq-eqb, le-leb, lt-ltb, le-ltb, false≢true}
+use Rattle.std.proofs.lemmas.Bool.{and_parts, and_from, cases_Bool, both_ways, eqb-true, leb-true, ltb-true, eq-eqb, le-leb, lt-ltb, le-ltb, false≢true}
 use Rattle.checksum.specs.Crc.{crc_of}
 use Rattle.checksum.specs.Sealed.{is_sealed}
 use Rattle.checksum.specs.Bytes.{zeros, word32, word64}
@@ -62,6 +62,12 @@ module _ (at pages : ℕ) (b : List ℕ) where
 
   pub none_shape : (Shaped b → ⊥) → read_meta at pages b ≡ None
   none_shape h = none_unless (λ t. h (rw (passing_page t) (page_shaped (meta_in b))))
+
+  pub none_seal : is_sealed b ≡ false → read_meta at pages b ≡ None
+  none_seal h = none_unless (λ t. both_ways (is_sealed b) h (ap is_sealed (passing_page t) ∙ page_sealed (meta_in b)))
+
+  pub none_good : (Good at pages (meta_in b) → ⊥) → read_meta at pages b ≡ None
+  none_good h = none_unless (λ t. h (passing_good t))
 
 -- what the code reads: what the bytes say, where it finds them a sealed page of the right shape with good numbers
 pub read_judged : (at pages : ℕ) (b : List ℕ) → Bytes b → length b ≡ 512 → (p : Bool)
