@@ -1,13 +1,13 @@
 -- The steps at a branch, by the number of the child.
-use Rattle.std.proofs.Common.{◌≡◌, ℕ, zero, suc, ◌<◌, ◌≤◌, Bool, true, false, cond, List, [], ◌∷◌, length, refl, ap, ◌∙◌, arith}
+use Rattle.std.proofs.Common.{◌≡◌, ℕ, zero, suc, ◌<◌, ◌≤◌, Bool, true, false, cond, List, [], ◌∷◌, ◌++◌, length, get_or, take, drop, refl, ap, ◌∙◌, arith}
 use Rattle.cuts.specs.Keys.{key<, AtMost}
 use Rattle.cuts.specs.Nodes.{Cell, Branch}
 use Rattle.cuts.specs.Cuts.{total}
 use Rattle.tree.specs.Trees.{branch}
-use Rattle.tree.specs.Edits.{Grown, one, two, prepend, place, mend, mended}
+use Rattle.tree.specs.Edits.{Grown, one, two, in_place, prepend, place, mend, mended}
 use Rattle.tree.specs.Sound.{Bound, before, Under}
 use Rattle.tree.specs.Search.{picked, child_at}
-use Rattle.tree.specs.Places.{splice, join_at, repair_at}
+use Rattle.tree.specs.Places.{separator_at, splice, splice_two, join_at, repair_at}
 use Rattle.tree.proofs.Strict.{Ranges}
 use Rattle.tree.proofs.Around.{wants}
 
@@ -96,3 +96,28 @@ module _ {X : Type 0} (under : X → Bool) (j : X → List ℕ → X → Grown X
       → mended under j (place e k x cs) ≡ repair_at under j (picked k cs) (e (child_at (picked k cs) x cs)) x cs
   mend_place e k x cs n s w =
       rw (place_at e k x cs) (mend_splice (picked k cs) (e (child_at (picked k cs) x cs)) x cs (picked_within k cs) n s w)
+
+-- the places in the list of cells; d is any cell
+module _ {X : Type 0} (d : Cell X) where
+  pub child_at_cell : (i : ℕ) (x : X) (cs : List (Cell X)) → i < length cs → child_at (suc i) x cs ≡ (get_or cs i d).child
+  child_at_cell i x [] l = let bad : ⊥ = omega arith in absurd bad
+  child_at_cell zero x (c ∷ cs) l = refl
+  child_at_cell (suc i) x (c ∷ cs) l = child_at_cell i c.child cs (omega arith)
+
+  pub separator_at_cell : (i : ℕ) (cs : List (Cell X)) → i < length cs → separator_at i cs ≡ (get_or cs i d).separator
+  separator_at_cell i [] l = let bad : ⊥ = omega arith in absurd bad
+  separator_at_cell zero (c ∷ cs) l = refl
+  separator_at_cell (suc i) (c ∷ cs) l = separator_at_cell i cs (omega arith)
+
+  pub splice_cells : (i : ℕ) (g : Grown X) (x : X) (cs : List (Cell X)) → i < length cs
+      → splice (suc i) g x cs ≡ branch x (take i cs ++ (prepend x (get_or cs i d).separator (in_place g (drop (suc i) cs))).rest)
+  splice_cells i g x [] l = let bad : ⊥ = omega arith in absurd bad
+  splice_cells zero g x (c ∷ cs) l = refl
+  splice_cells (suc i) g x (c ∷ cs) l = let r = splice_cells i g c.child cs (omega arith) in rw r
+
+  pub splice_two_cells : (i : ℕ) (g : Grown X) (x : X) (cs : List (Cell X)) → suc i < length cs
+      → splice_two (suc i) g x cs ≡ branch x (take i cs ++ (prepend x (get_or cs i d).separator (in_place g (drop (suc (suc i)) cs))).rest)
+  splice_two_cells i g x [] l = let bad : ⊥ = omega arith in absurd bad
+  splice_two_cells zero g x (c ∷ []) l = let bad : ⊥ = omega arith in absurd bad
+  splice_two_cells zero g x (c ∷ b ∷ cs) l = refl
+  splice_two_cells (suc i) g x (c ∷ cs) l = let r = splice_two_cells i g c.child cs (omega arith) in rw r

@@ -8,7 +8,7 @@ use Rattle.cuts.specs.Sizes.{usable}
 use Rattle.tree.specs.Trees.{branch_cost}
 use Rattle.tree.specs.Edits.{Grown, one, two, give_up, cut_branch, fit, merge_branches, in_place, prepend, place, mend}
 use Rattle.tree.specs.Search.{picked, child_at}
-use Rattle.tree.specs.Places.{splice, splice_two, map_cell, map_branch, map_grown}
+use Rattle.tree.specs.Places.{separator_at, splice, splice_two, map_cell, map_branch, map_grown}
 use Rattle.tree.specs.Laws.{StepsCommute, StepsCommuteWithReading}
 
 module _ {X Y : Type 0} (f : X → Y) where
@@ -31,6 +31,11 @@ module _ {X Y : Type 0} (f : X → Y) where
   child_at_map zero x cs = refl
   child_at_map (suc i) x [] = refl
   child_at_map (suc i) x (c ∷ cs) = child_at_map i c.child cs
+
+  pub separator_at_map : (i : ℕ) (cs : List (Cell X)) → separator_at i (map (map_cell f) cs) ≡ separator_at i cs
+  separator_at_map i [] = refl
+  separator_at_map zero (c ∷ cs) = refl
+  separator_at_map (suc i) (c ∷ cs) = separator_at_map i cs
 
   -- cut and join
   give_up_map : (x : X) (bs cs : List (Cell X))
