@@ -1,13 +1,14 @@
 -- Edits of branches as the tree's steps.
 use Rattle.std.proofs.Common.{◌≡◌, ℕ, suc, ◌+◌, ◌-◌, ◌<◌, ◌≤◌, true, ◌||◌, ltb, List, ◌∷◌, ◌++◌, map, length, take, drop, Some, None, Option, sym, ap, ◌∙◌, subst, add-one, arith}
 use Rattle.std.proofs.lemmas.Bool.Decides.{nat_tests}
+use Rattle.std.proofs.lemmas.List.{take_all}
 use Rattle.cuts.specs.Cuts.{total}
 use Rattle.cuts.specs.Nodes.{Cell, Branch, cell_cost}
 use Rattle.tree.specs.Trees.{cell, branch}
 use Rattle.tree.specs.Edits as tree
 use Rattle.tree.specs.Places.{separator_at, splice}
 use Rattle.page.specs.Branches.{BranchBytes}
-use Rattle.page.specs.Growths.{GrowsTo, TwoEnds, spliced, spliced_two, InsertsChild, ReplacesChildren}
+use Rattle.page.specs.Growths.{GrowsTo, TwoEnds, spliced, spliced_two, light, merged, InsertsChild, ReplacesChildren, JoinsBranches}
 use Rattle.page.specs.Kinds.{branch_good, cell_of}
 use Rattle.page.specs.Layout.{cost, cells_of, left_of}
 use Rattle.page.specs.Views.{branch_node}
@@ -74,6 +75,17 @@ module _ (p q : BranchPage) (i l : ℕ) (s : List ℕ) (r : ℕ) (e : branch_nod
       by_case : (o : Option (Grown BranchPage)) → GrowsTo s (spliced_two p i (tree.two l s r)) o → ReplacesChildren p i l s r o
       by_case None f = λ z. f z.1
       by_case (Some g) f = (h, f.0, f.1)
+
+pub joins : (p q : BranchPage) (s : List ℕ) (n x : ℕ) (o : Option (Grown BranchPage)) → (light p || light q) ≡ true → n ≡ length (branch_node p).rest → x ≡ (branch_node q).first
+    → GrowsTo s (branch (branch_node p).first (take n (branch_node p).rest ++ cell s x ∷ (branch_node q).rest)) o → JoinsBranches p s q o
+joins p q s n x o u en ex f =
+    let a = ap (λ cs. branch (branch_node p).first (cs ++ cell s x ∷ (branch_node q).rest)) (take_all n (branch_node p).rest (omega arith)) in
+    let b = ap (λ y. branch (branch_node p).first ((branch_node p).rest ++ cell s y ∷ (branch_node q).rest)) ex in
+    by_case o (as_grown s o (a ∙ b) f)
+  where
+    by_case : (o : Option (Grown BranchPage)) → GrowsTo s (merged p s q) o → JoinsBranches p s q o
+    by_case None f = λ z. f z.1
+    by_case (Some g) f = (u, f.0, f.1)
 
 pub merges : (p q : BranchPage) (i x : ℕ) (b : Branch ℕ) → branch_node q ≡ spliced p i (tree.one x) → i < length (branch_node p).rest
     → b ≡ branch (branch_node q).first (take i (branch_node q).rest ++ drop (i + 1) (branch_node q).rest) → b ≡ spliced_two p i (tree.one x)

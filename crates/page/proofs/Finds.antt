@@ -3,13 +3,13 @@ use Rattle.std.proofs.Common.{◌≡◌, ℕ, zero, suc, ◌+◌, ◌-◌, ◌<�
 use Rattle.std.proofs.lemmas.List.{length-map}
 use Rattle.std.specs.Result.{result_ok}
 use Rattle.cuts.specs.Nodes.{Pair}
-use Rattle.std.proofs.lemmas.Bool.{cases_lt, both_ways}
+use Rattle.std.proofs.lemmas.Bool.{cases_lt, both_ways, lt-ltb}
 use Rattle.cuts.specs.Keys.{key<}
 use Rattle.cuts.proofs.Order.{less_self}
 use Rattle.page.specs.Kinds.{leaf_key, pair_of}
 use Rattle.page.specs.Places.{up_to}
 use Rattle.page.specs.Reading.{rising}
-use Rattle.page.specs.Views.{key_of, key_at, value_at, FindsKey, SeeksKey}
+use Rattle.page.specs.Views.{key_of, key_at, value_at, value_of_place, FindsKey, SeeksKey}
 use Rattle.page.proofs.Places.{rises, back_above, up_to_length, up_to_front, up_to_at}
 
 pub up_to_pairs : (k : List ℕ) (xs : List (List ℕ)) → up_to key_of k (map pair_of xs) ≡ up_to leaf_key k xs
@@ -26,6 +26,11 @@ pub value_at_lem : (xs : List (List ℕ)) (i : ℕ) → i < length xs → value_
 value_at_lem [] i h = absurd (omega arith)
 value_at_lem (x ∷ xs) zero h = refl
 value_at_lem (x ∷ xs) (suc i) h = value_at_lem xs i (omega arith)
+
+module _ (xs : List (List ℕ)) (i : ℕ) (s : List ℕ) (h : i < length (map pair_of xs)) where
+  pub value_some : s ≡ drop (2 + get_or (get_or xs i []) 0 0) (get_or xs i []) → Some s ≡ value_of_place i (map pair_of xs)
+  value_some e =
+      ap Some (e ∙ sym (value_at_lem xs i (omega (arith, length-map xs pair_of)))) ∙ sym (ap (λ t. cond t (Some (value_at (map pair_of xs) i)) None) (lt-ltb _ _ h))
 
 module _ (k : List ℕ) (xs : List (List ℕ)) (asc : rising leaf_key xs ≡ true) (a : ℕ) (e : a ≡ up_to leaf_key k xs) where
   above_differs : (j : ℕ) → a ≤ j → j < length xs → leaf_key (get_or xs j []) ≡ k → ⊥

@@ -265,3 +265,6 @@ pub cost_drop : (i j : ℕ) (xs : List (List ℕ)) → i ≤ j → cost (drop j 
 cost_drop i j xs h =
     let e : drop (j - i) (drop i xs) ≡ drop j xs = drop-drop (j - i) i xs ∙ ap (λ m. drop m xs) (omega arith) in
     omega (arith, cost_split (j - i) (drop i xs), ap cost e)
+
+pub cost_parts : (i n : ℕ) (xs : List (List ℕ)) → n ≡ length xs → cost (between 0 i xs) + cost (between i n xs) ≡ cost xs
+cost_parts i n xs h = omega (arith, cost_split i xs, ap cost (front_is i xs), ap cost (back_is i n xs h))

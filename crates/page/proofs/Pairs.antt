@@ -1,18 +1,24 @@
 -- A pair of a leaf, by the part of the page that its cell is.
-use Rattle.std.proofs.Common.{◌≡◌, ℕ, ◌+◌, ◌-◌, ◌<◌, ◌≤◌, true, false, leb, List, [], length, get_or, take, drop, Some, None, sym, refl, ap, ◌∙◌, arith}
+use Rattle.std.proofs.Common.{◌≡◌, ℕ, ◌+◌, ◌-◌, ◌<◌, ◌≤◌, true, false, leb, List, [], length, get_or, take, drop, is_some, Some, None, Option, sym, refl, ap, ◌∙◌, arith}
 use Rattle.std.proofs.lemmas.List.{length-map, length-drop, length-take-le, take-take, take_all, drop-take, drop-drop}
-use Rattle.std.proofs.lemmas.Bool.{le-leb, lt-leb}
+use Rattle.std.proofs.lemmas.Bool.{false≢true, le-leb, lt-leb}
 use Rattle.page.specs.Kinds.{leaf_good, leaf_key, leaf_rules, pair_of}
 use Rattle.page.specs.Layout.{Laid, cells_of, edge_at}
 use Rattle.page.specs.Pairs.{PairSeen, pair_seen}
 use Rattle.page.specs.Reading.{every, shape_fault}
 use Rattle.page.specs.Views.{pairs_in, key_at, value_at}
+use Rattle.page.specs.declared.fault.Cause.{Cause}
 use Rattle.page.proofs.Children.{shape_parts}
 use Rattle.page.proofs.Finds.{key_at_lem, value_at_lem}
 use Rattle.page.specs.Goods.{leaf_parts_of}
 use Rattle.page.proofs.Pages.{edge_is}
 use Rattle.page.proofs.Tested.{every_at, part_is, edges_down}
 use Rattle.page.proofs.Wholes.{few_cells}
+
+-- the shape has no fault, by what was found of it
+pub free_of : {f : Option Cause} (o : Option Cause) → o ≡ f → false ≡ is_some o → f ≡ None
+free_of None e n = sym e
+free_of (Some x) e n = absurd (false≢true n)
 
 -- a part of a part
 part_of : (b : List ℕ) (from n k m : ℕ) → k + m ≤ n → take m (drop k (take n (drop from b))) ≡ take m (drop (from + k) b)

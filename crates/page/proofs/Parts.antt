@@ -29,6 +29,9 @@ module _ (good : List ℕ → Bool) where
   every_drop (suc n) [] h = refl
   every_drop (suc n) (x ∷ xs) h = every_drop n xs (and_parts _ _ h).1
 
+  pub every_between : (i j : ℕ) (xs : List (List ℕ)) → every good xs ≡ true → every good (between i j xs) ≡ true
+  every_between i j xs h = every_take (j - i) (drop i xs) (every_drop i xs h)
+
 module _ (key : List ℕ → List ℕ) where
   pub rising_drop : (n : ℕ) (xs : List (List ℕ)) → rising key xs ≡ true → rising key (drop n xs) ≡ true
   unfolding rising
