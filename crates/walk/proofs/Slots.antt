@@ -1,6 +1,7 @@
 -- The slots of a branch by the number of the child.
-use Rattle.std.proofs.Common.{◌≡◌, ℕ, zero, suc, ◌+◌, ◌≤◌, cond, ltb, leb, List, [], ◌∷◌, length, drop, Some, None, Option, refl, ap, add-one, arith}
+use Rattle.std.proofs.Common.{◌≡◌, ℕ, zero, suc, ◌+◌, ◌<◌, ◌≤◌, cond, ltb, leb, List, [], ◌∷◌, length, drop, Some, None, Option, sym, refl, ap, ◌∙◌, add-one, arith, length-drop}
 use Rattle.std.specs.Option.{option_map, option_or}
+use Rattle.std.proofs.lemmas.List.{drop_all}
 use Rattle.std.proofs.lemmas.Bool.Decides.{nat_tests}
 use Rattle.cuts.specs.Nodes.{Cell}
 use Rattle.tree.specs.Places.{separator_at}
@@ -46,3 +47,15 @@ module _ {X : Type 0} where
       let w : i ≤ length cs = grind (arith, nat_tests) in
       let q : p ≡ child_at i x cs = grind (arith, nat_tests) in
       rw (add-one, a, b, q) (slots_drop lo hi x cs i w)
+
+  pub slots_past : (lo : List ℕ) (hi : Bound) (x : X) (cs : List (Cell X)) (i : ℕ)
+      → None ≡ cond (leb i (length cs)) (Some (child_at i x cs)) None
+      → drop i (slots lo hi x cs) ≡ drop (i + 1) (slots lo hi x cs)
+  slots_past lo hi x cs i e =
+      let w : length cs < i = grind (arith, nat_tests) in
+      let l = length_slots lo hi x cs in
+      drop_all i (slots lo hi x cs) (omega arith) ∙ sym (drop_all (i + 1) (slots lo hi x cs) (omega arith))
+
+  -- where there is no next
+  pub drop_none : (i : ℕ) (xs : List X) → drop i xs ≡ drop (i + 1) xs → drop i xs ≡ []
+  drop_none i xs e = drop_all i xs (omega (arith, length-drop i xs, length-drop (i + 1) xs, ap length e))

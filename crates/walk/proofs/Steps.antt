@@ -41,6 +41,9 @@ free_is b met size p l h = side (ltb p size) refl
     side true q = let k : p < 1024 = grind (arith, nat_tests) in rw (h p k)
     side false q = grind (arith, nat_tests)
 
+pub free_tells : (b : List Bool) (size p : ℕ) → free size b p ≡ true → (p < size) × (get_or b p false ≡ false)
+free_tells b size p e = (grind (arith, nat_tests), grind (arith, nat_tests))
+
 -- answers
 ok_answer : (on : Bool) (w : Walked) (k : ℕ) → Ok k ≡ answer on w → (on ≡ true) × ((met : List ℕ) × (w ≡ fine met k))
 ok_answer false w k e = let z : ◌≡◌ {A = ℕ} 0 1 = cc in let bad : ⊥ = omega arith in absurd bad
