@@ -1,11 +1,12 @@
 -- Lists of pages, and what holds of each of them.
-use Rattle.std.proofs.Common.{◌≡◌, ℕ, zero, suc, ◌+◌, ◌<◌, ◌≤◌, Bool, false, Vec, List, [], ◌∷◌, ◌++◌, length, map, take, drop, get_or, set, refl, ap, sym, ◌∙◌, arith}
+use Rattle.std.proofs.Common.{◌≡◌, ℕ, zero, suc, ◌+◌, ◌<◌, ◌≤◌, Bool, false, Vec, List, [], ◌∷◌, ◌++◌, length, map, take, drop, get_or, set, replicate, refl, ap, sym, ◌∙◌, arith}
 use mathlib.Core.HLevel.{is_prop→PathP}
 use native.Mathlib.Nat.{ℕ_set}
 use native.Mathlib.Bridge.{le_prop}
-use Rattle.std.proofs.lemmas.List.{length-map, with_items_is, get_or-map, map-set, set-get_or}
+use Rattle.std.proofs.lemmas.List.{length-map, length-take, with_items_is, get_or-map, map-set, set-get_or}
 use Rattle.std.proofs.lemmas.List.Edits.{map_over_more}
 use Rattle.std.proofs.lemmas.Grind.{common_steps}
+use Rattle.std.specs.List.{FoldsTo, AppendsResults}
 use Rattle.std.specs.Vec.{with_items}
 use Rattle.disks.specs.Kept.{Kept, Sound, written, page_at}
 
@@ -29,6 +30,22 @@ pub wrote_at : {S : Type 0} (kept : S → Kept) (a : Bool) (b : List ℕ) (xs : 
     → map kept (set xs p t) ≡ set (map kept xs) p (written a b (page_at (map kept xs) p))
 wrote_at kept a b xs p s t h e w =
     map-set kept xs p t ∙ ap (set (map kept xs) p) (w ∙ ap (written a b) (kept_at kept xs p s h e))
+
+-- what a closure makes, call by call, is the same when kept, if each of its answers is
+pub made_alike : {F S K : Type 0} (step : F → S → F → Type 0) (kept : S → K) (k : K) → ((p : F) (x : S) (q : F) → step p x q → kept x ≡ k)
+    → (f : F) (xs : List S) (last : F) → FoldsTo step f xs last → map kept xs ≡ replicate (length xs) k
+made_alike step kept k h f [] last e = refl
+made_alike step kept k h f (x ∷ xs) last e =
+    ap (λ v. v ∷ map kept xs) (h f x e.0 e.1) ∙ ap (λ l. k ∷ l) (made_alike step kept k h e.0 xs last e.2)
+
+take_none : {S : Type 0} (n : ℕ) (xs : List S) → xs ≡ [] → take n xs ≡ []
+take_none n xs e = grind (arith, common_steps, length-take)
+
+pub filled_alike : {F S K : Type 0} (step : F → S → F → Type 0) (kept : S → K) (k : K) → ((p : F) (x : S) (q : F) → step p x q → kept x ≡ k)
+    → (f : F) (old new : List S) (n : ℕ) → old ≡ [] → AppendsResults step (take n old) new f → length new ≡ n → map kept new ≡ replicate n k
+filled_alike step kept k h f old new n e a l =
+    let s : new ≡ a.0 = a.2 ∙ ap (λ v. v ++ a.0) (take_none n old e) in
+    ap (map kept) s ∙ made_alike step kept k h f a.0 a.1 a.3 ∙ ap (λ m. replicate m k) (sym (ap length s) ∙ l)
 
 -- A loop over the pages xs has changed the first i by f, and made ys of them. Where none is volatile, none was
 -- touched.

@@ -19,8 +19,11 @@ impl<S: Stored> Disk<S> {
         ensures fuse { IfOk result (λ d. d.fuse ≡ fresh limit) }
         ensures past { IfOk result (λ d. disk_past d []) }
     {
+        // all room at once: `collect` asks for less and less of it, and fills what it gets, before it gives up
+        let mut kept = Vec::new(heap);
+        kept.resize_with(pages as usize, || S::blank())?;
         Ok(Disk {
-            pages: (0..pages).map(|_| S::blank()).collect(heap)?,
+            pages: kept,
             fuse: Fuse::new(limit),
         })
     }
