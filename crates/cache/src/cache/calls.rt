@@ -61,8 +61,7 @@ impl<D: Device> Reader for Cache<D> {
             *buffer = bytes;
             return Ok(());
         };
-        let bytes = self.slots.show(place);
-        *buffer = bytes;
+        self.slots.show(place, buffer);
         Ok(())
     }
 }

@@ -1,12 +1,11 @@
 ghost use Rattle.std.specs.Prelude.{◌≡◌, ◌≤◌, true, length, replicate, is_some, if◌then◌else◌, Some, None, slice_set};
-ghost use Rattle.device.specs.Medium.{zeros};
 ghost use Rattle.cache.specs.Held.{has, pages_in, copy_of, copies, slot_at, Full, shown, Finds, Replaces};
 
 use crate::copy::Copied;
 use crate::place::Place;
 use crate::slot::Slot;
 use crate::slots::{SLOTS, Slots};
-use device::{PAGE_SIZE, Page};
+use device::Page;
 
 impl Slots {
     pub fn new() -> Self
@@ -52,16 +51,17 @@ impl Slots {
         self.all[place.number].copy = Some(copy);
     }
 
-    // The bytes of the page in a slot, or zeros. The slot is then the one used last.
-    pub fn show(&mut self, place: Place) -> Page
+    // Copies the bytes of the page in a slot, if there is one, into the buffer: a page that is answered by value is copied once
+    // more. The slot is then the one used last.
+    pub fn show(&mut self, place: Place, buffer: &mut Page)
         ensures pages { pages_in self.new.all ≡ pages_in self.old.all }
-        ensures bytes { result ≡ shown (slot_at (pages_in self.old.all) place.number) zeros }
+        ensures bytes { buffer.new ≡ shown (slot_at (pages_in self.old.all) place.number) buffer.old }
     {
         self.touch(place);
-        let Some(copy) = self.get(place) else {
-            return [0; PAGE_SIZE];
-        };
-        copy.bytes
+        if let Some(copy) = self.get(place) {
+            let bytes = copy.bytes;
+            *buffer = bytes;
+        }
     }
 
     // Marks a slot as the one used last.
