@@ -65,14 +65,20 @@ impl<'a, C: Cell> Cells<'a, C> {
         2 * (j - i) + edge(self.page, i) - edge(self.page, j)
     }
 
-    // Whether each key is below the next.
+    // Whether each key is below the next. Each is looked up once, as the next comparison has the key of the one before.
     pub(crate) fn is_rising(&self) -> bool
         ensures { result ≡ rising C.rules.key (cells_of self.now.page.now) }
     {
+        if self.len() == 0 {
+            return true;
+        }
+        let mut before = self.key(0);
         for i in 1..self.len() {
-            if !key_less(self.key(i - 1), self.key(i)) {
+            let key = self.key(i);
+            if !key_less(before, key) {
                 return false;
             }
+            before = key;
         }
         true
     }
