@@ -1,7 +1,6 @@
 // What reading a page finds when one of its bits is wrong.
 use device::{PAGE_SIZE, Page};
 use page::Cause;
-use std::alloc::{AllocError, Global};
 
 // What reading finds first where one bit is turned. (Options of a cause, since the tables count the pages with none, too.)
 #[derive(Clone, Copy)]
@@ -12,24 +11,24 @@ struct Found {
     sealed: Option<Cause>,
 }
 
-// What is found for each byte with its lowest bit turned.
-fn find<F: Fn(&Page) -> Option<Cause>>(
-    alloc: Global,
-    page: &Page,
-    cause: F,
-) -> Result<Vec<Found>, AllocError>
+// What is found for each byte with its lowest bit turned. (An array, since the program needs no heap; it is filled by index,
+// as each of its places is a byte of the page.)
+fn find<F: Fn(&Page) -> Option<Cause>>(page: &Page, cause: F) -> [Found; PAGE_SIZE]
     requires { F.IsAlwaysCallable cause }
 {
-    (0..PAGE_SIZE)
-        .map(|i| {
-            let mut turned = *page;
-            turned[i] ^= 1;
-            let bare = cause(&turned);
-            checksum::seal(&mut turned);
-            let sealed = cause(&turned);
-            Found { bare, sealed }
-        })
-        .collect(alloc)
+    let mut found = [Found {
+        bare: None,
+        sealed: None,
+    }; PAGE_SIZE];
+    for i in 0..PAGE_SIZE {
+        let mut turned = *page;
+        turned[i] ^= 1;
+        let bare = cause(&turned);
+        checksum::seal(&mut turned);
+        let sealed = cause(&turned);
+        found[i] = Found { bare, sealed };
+    }
+    found
 }
 
 // How often one of some causes was found.
@@ -73,7 +72,7 @@ pub fn show<F: Fn(&Page) -> Option<Cause>>(
 ) -> anyhow::Result<()>
     requires { F.IsAlwaysCallable cause }
 {
-    let found = find(rt.alloc(), page, cause)?;
+    let found = find(page, cause);
     println!(rt)?;
     println!(rt; "{name}")?;
     println!(rt; "  cause            as it is  with the checksum made right")?;

@@ -38,41 +38,42 @@ fn show_head(rt: &HostRuntime, name: &str, page: &Page) -> anyhow::Result<()> {
     show_checksum(rt, page)
 }
 
-// A page of cells: what stands before them, and of each cell where it begins and what it says.
-fn show_cells<F: Fn(usize) -> anyhow::Result<String>>(
+// A page of cells: what stands before them, and of each cell where it begins and what it says. (The closure prints the cell, so
+// that no text has to be made for it, which would need the heap.)
+fn show_cells<F: Fn(u16, usize) -> anyhow::Result<()>>(
     rt: &HostRuntime,
     name: &str,
     page: &Page,
     cells: usize,
-    says: F,
+    show: F,
 ) -> anyhow::Result<()>
-    requires { F.IsAlwaysCallable says }
+    requires { F.IsAlwaysCallable show }
 {
     show_head(rt, name, page)?;
     let (offsets, _) = page[16..].as_chunks::<2>();
     for (i, offset) in offsets.iter().take(cells).enumerate() {
-        let at = u16::from_le_bytes(*offset);
-        let cell = says(i)?;
-        println!(rt; "  cell at {at}: {cell}")?;
+        show(u16::from_le_bytes(*offset), i)?;
     }
     Ok(())
 }
 
 pub fn show_leaf(rt: &HostRuntime, name: &str, leaf: &LeafPage) -> anyhow::Result<()> {
-    show_cells(rt, name, leaf.bytes(), leaf.len(), |i| {
+    show_cells(rt, name, leaf.bytes(), leaf.len(), |at, i| {
         let key = text(leaf.key(i).context("a key is missing")?);
         let value = text(leaf.value(i).context("a value is missing")?);
-        Ok(format!(in rt.alloc(); "\"{key}\" -> \"{value}\"")?)
+        println!(rt; "  cell at {at}: \"{key}\" -> \"{value}\"")?;
+        Ok(())
     })
 }
 
 pub fn show_branch(rt: &HostRuntime, name: &str, branch: &BranchPage) -> anyhow::Result<()> {
-    show_cells(rt, name, branch.bytes(), branch.len(), |i| {
+    show_cells(rt, name, branch.bytes(), branch.len(), |at, i| {
         let separator = text(branch.separator(i).context("a separator is missing")?);
         let child = branch
             .child(i.saturating_add(1))
             .context("a child is missing")?;
-        Ok(format!(in rt.alloc(); "keys from \"{separator}\" on -> child {child}")?)
+        println!(rt; "  cell at {at}: keys from \"{separator}\" on -> child {child}")?;
+        Ok(())
     })
 }
 
